@@ -1,0 +1,31 @@
+-- Two answers with one number are one answer: each is found again by its number.
+-- Assumes nothing.
+use mathlib.Core.Path.{_≡_, refl, sym, _∙_, ap}
+use Prim.Native.Nat.{ℕ}
+use lib.Dec.{eqb}
+use Rattle.answers.specs.Choice.{_⇒_∣_}
+use Rattle.answers.specs.Answers.{numberOf}
+use Rattle.answers.specs.declared.Answer.{Answer}
+use Rattle.answers.specs.declared.Answer.the-variants.{Accepted, Done, FlowControl, StreamLimit, StreamState, FinalSize, FrameEncoding, ProtocolViolation, Closed, NotAbove, AboveCeiling, NotServed, SizeKnown, BelowRecord, InRecord, NoRoom, Unwritable, NoPacket, NoSuchNumber, NothingToAcknowledge, DoesNotFit}
+use mathlib.Core.List.{List, [], _∷_}
+
+cases : List Answer
+cases =
+    Accepted ∷ Done ∷ FlowControl ∷ StreamLimit ∷ StreamState ∷ FinalSize ∷ FrameEncoding ∷ ProtocolViolation
+    ∷ Closed ∷ NotAbove ∷ AboveCeiling ∷ NotServed ∷ SizeKnown ∷ BelowRecord ∷ InRecord ∷ NoRoom ∷ Unwritable ∷ NoPacket ∷ NoSuchNumber ∷ NothingToAcknowledge
+    ∷ DoesNotFit ∷ []
+
+-- the first answer of a list with the number n
+first : List Answer → ℕ → Answer
+first [] n = Accepted
+first (a ∷ l) n = eqb (numberOf a) n ⇒ a ∣ first l n
+
+again : (a : Answer) → first cases (numberOf a) ≡ a
+unfolding first cases
+again a = elim a [
+      Accepted ↦ refl | Done ↦ refl | FlowControl ↦ refl | StreamLimit ↦ refl | StreamState ↦ refl | FinalSize ↦ refl | FrameEncoding ↦ refl
+    | ProtocolViolation ↦ refl | Closed ↦ refl | NotAbove ↦ refl | AboveCeiling ↦ refl | NotServed ↦ refl | SizeKnown ↦ refl | BelowRecord ↦ refl
+    | InRecord ↦ refl | NoRoom ↦ refl | Unwritable ↦ refl | NoPacket ↦ refl | NoSuchNumber ↦ refl | NothingToAcknowledge ↦ refl | DoesNotFit ↦ refl ]
+
+pub one-case : (a b : Answer) → numberOf a ≡ numberOf b → a ≡ b
+one-case a b e = sym (again a) ∙ ap (first cases) e ∙ again b

@@ -1,0 +1,83 @@
+-- Whether a number stands in its shortest form is told by its value and its two places (W2): the test holds exactly where the bytes there are that form.
+-- Assumes nothing.
+use mathlib.Core.Path.{_≡_, refl, sym, _∙_, ap}
+use mathlib.Core.Bool.{Bool, true, false}
+use mathlib.Core.List.{List, [], _∷_, _++_}
+use Prim.Native.Nat.{ℕ, zero, suc, _+_, _*_, _-_, _/_, _%_, _^_, _≤_, _<_}
+use native.Mathlib.Nat.{add-zero, zero-add, pow-suc}
+use native.Mathlib.Omega.{arith}
+use borrow.Author.Tests.{ltb-false, eqb-true, eq-eqb}
+use lib.Dec.{ltb}
+use lib.Pow.{pow-lt}
+use lib.ListN.{length, getD}
+use Rattle.answers.proofs.Choice.{below-or-not}
+use Rattle.answers.specs.Choice.{_⇒_∣_}
+use Rattle.wire.specs.Number.{bigEndian, valuesIn, numberAt, formAt, spelled, formOf, sizeOf, bytesOf, shortest, Stands}
+use Rattle.wire.specs.declared.Number.the-variants.{Is, CutShort}
+use Rattle.wire.proofs.BigEndian.{join, length-spelled}
+use Rattle.wire.proofs.Standing.{append, one}
+use Rattle.wire.proofs.Back.{back}
+use Rattle.wire.proofs.Sound.{sound, four}
+use Rattle.wire.proofs.Forms.{formed}
+
+-- the form is fixed by its size
+form-by-size : (v f : ℕ) → sizeOf v ≡ 2 ^ f → formOf v ≡ f
+unfolding sizeOf
+form-by-size v f e =
+    below-or-not (formOf v) f (λ h. absurd (omega (arith, pow-lt h)))
+    (λ h. below-or-not f (formOf v) (λ k. absurd (omega (arith, pow-lt k))) (λ k. omega arith))
+
+module _ (s : List ℕ) (at k v n : ℕ) where
+  -- what a form that was read says
+  read-form : formAt s at k ≡ Is v n → (at + k ≤ length s) × (v ≡ bigEndian s at k % valuesIn k) × (n ≡ at + k)
+  unfolding formAt
+  read-form = go (ltb (length s) (at + k)) refl
+    where
+      go : (b : Bool) → ltb (length s) (at + k) ≡ b → (b ⇒ CutShort ∣ Is (bigEndian s at k % valuesIn k) (at + k)) ≡ Is v n → (at + k ≤ length s) × (v ≡ bigEndian s at k % valuesIn k) × (n ≡ at + k)
+      go true p e = let z : _≡_ {A = ℕ} 0 1 = cc in absurd (omega arith)
+      go false p e = (ltb-false _ _ p, cc, cc)
+
+module _ (s : List ℕ) (bytes : (i : ℕ) → getD s i 0 < 256) where
+  low : (at k : ℕ) → bigEndian s at k < 256 ^ k
+  unfolding bigEndian
+  low at zero = omega arith
+  low at (suc k) = rw pow-suc (omega (arith, low at k, bytes (at + k)))
+
+  -- bytes are spelled out by their value
+  spelled-read : (at k : ℕ) → at + k ≤ length s → Stands s at (spelled k (bigEndian s at k))
+  unfolding bigEndian spelled
+  spelled-read at zero h = record { ends = omega arith; same = λ i l. absurd (omega arith) }
+  spelled-read at (suc k) h =
+      let x = bigEndian s at k in
+      let b = bytes (at + k) in
+      let d : (x * 256 + getD s (at + k) 0) / 256 ≡ x = omega arith in
+      let m : (x * 256 + getD s (at + k) 0) % 256 ≡ getD s (at + k) 0 = omega arith in
+      rw (d, m) (append (spelled k x) _ (spelled-read at k (omega arith)) (rw (length-spelled k x) (one s (at + k) (omega arith))))
+
+  -- the first byte and the others
+  parts : (at j : ℕ) → (bigEndian s at (1 + j) ≡ getD s at 0 * 256 ^ j + bigEndian s (at + 1) j) × (bigEndian s (at + 1) j < 256 ^ j)
+  unfolding bigEndian
+  parts at j = (join s at 1 j ∙ rw (add-zero, zero-add), low (at + 1) j)
+
+  -- one form f of k bytes, whose top two bits are f
+  form-stands : (at v n f k : ℕ) → 2 ^ f ≡ k → bigEndian s at k ≡ f * valuesIn k + bigEndian s at k % valuesIn k → shortest at v n ≡ true → formAt s at k ≡ Is v n → Stands s at (bytesOf v)
+  unfolding shortest
+  form-stands at v n f k e top t q =
+      let r = read-form s at k v n q in
+      let z : sizeOf v ≡ 2 ^ f = omega (arith, e, r .2, eqb-true n (at + sizeOf v) t) in
+      rw (formed v f (form-by-size v f z), e, r .1, ← top) (spelled-read at k (r .0))
+
+  pub shortest-stands : (at : ℕ) {v n : ℕ} → numberAt s at ≡ Is v n → shortest at v n ≡ true → Stands s at (bytesOf v)
+  unfolding numberAt valuesIn
+  shortest-stands at {v} {n} e t =
+      four (λ (f : ℕ). getD s at 0 / 64 % 4 ≡ f → formAt s at (2 ^ f) ≡ Is v n → Stands s at (bytesOf v))
+      (λ b. form-stands at v n 0 1 refl (omega (arith, parts at 0, bytes at)) t) (λ b. form-stands at v n 1 2 refl (omega (arith, parts at 1, bytes at)) t)
+      (λ b. form-stands at v n 2 4 refl (omega (arith, parts at 3, bytes at)) t) (λ b. form-stands at v n 3 8 refl (omega (arith, parts at 7, bytes at)) t)
+      (getD s at 0 / 64 % 4) (omega arith) refl e
+
+pub stands-shortest : (s : List ℕ) (at : ℕ) {v n : ℕ} → numberAt s at ≡ Is v n → Stands s at (bytesOf v) → shortest at v n ≡ true
+unfolding shortest
+stands-shortest s at {v} {n} e st =
+    let b : numberAt s at ≡ Is v (at + sizeOf v) = back s at v (sound s at e .low) st in
+    let q : n ≡ at + sizeOf v = cc in
+    eq-eqb _ _ q

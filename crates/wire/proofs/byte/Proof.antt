@@ -1,0 +1,23 @@
+-- `wire::byte` meets its contract: a byte that is there is its own value.
+-- Assumes nothing.
+use borrow.Author.Needs.{needs}
+use mathlib.Core.Path.{sym}
+use Rattle.wire.proofs.Forms.{plain-byte, plain-cut}
+use Rattle.wire.proofs.byte.Statement.{statement}
+use Rattle.wire.proofs.byte.Tie as tie
+
+returns : tie.Need-returns
+returns c = sym (plain-cut _ _ 1 (search needs))
+
+returns-2 : tie.Need-returns-2
+returns-2 c = rw (c .wide .ensures .0) (sym (plain-byte _ _ (search needs)))
+
+pub byte-spec : {M : Type 1} → statement M
+byte-spec =
+    tie.close
+    (tie.spec
+    returns
+    (λ c. search needs)
+    (λ c κs. search needs)
+    (λ c. search needs)
+    returns-2)

@@ -1,0 +1,63 @@
+-- `wire::put` meets its contract: the tests say which form is the first that holds the value.
+-- Assumes nothing.
+use borrow.Author.Needs.{needs}
+use native.Mathlib.Omega.{arith}
+use mathlib.Core.Path.{refl}
+use native.Mathlib.Nat.{zero-add}
+use Rattle.wire.proofs.Forms.{sized, formed, form-0, form-1, form-2, form-3}
+use Rattle.wire.specs.Number.{valuesIn, spelled}
+use Rattle.wire.proofs.put.Statement.{statement}
+use Rattle.wire.proofs.put.Tie as tie
+
+slice-write-out : tie.Need-slice-write-out
+slice-write-out c = let v = c .before .before .args .v in omega (arith, sized v 0 (form-0 v (omega arith)))
+
+returns : tie.Need-returns
+unfolding spelled valuesIn
+returns c = let f = form-0 _ (c .if1 .taken) in rw (sized _ 0 f, formed _ 0 f, zero-add) (refl, refl)
+
+put-two-requires : tie.Need-put-two-requires
+put-two-requires c κs = let v = c .before .before .before .before .args .v in omega (arith, sized v 1 (form-1 v (omega arith) (omega arith)))
+
+returns-2 : tie.Need-returns-2
+unfolding valuesIn
+returns-2 c = let v = c .before .before .before .before .before .before .before .args .v in let f = form-1 v (omega arith) (omega arith) in rw (sized v 1 f, formed v 1 f) (search needs)
+
+put-four-requires : tie.Need-put-four-requires
+put-four-requires c κs = let v = c .before .before .before .before .before .args .v in omega (arith, sized v 2 (form-2 v (omega arith) (omega arith)))
+
+returns-3 : tie.Need-returns-3
+unfolding valuesIn
+returns-3 c = let v = c .before .before .before .before .before .before .before .before .args .v in let f = form-2 v (omega arith) (omega arith) in rw (sized v 2 f, formed v 2 f) (search needs)
+
+put-eight-requires : tie.Need-put-eight-requires
+put-eight-requires c κs = let v = c .before .before .before .before .before .args .v in omega (arith, sized v 3 (form-3 v (omega arith)))
+
+returns-4 : tie.Need-returns-4
+unfolding valuesIn
+returns-4 c = let v = c .before .before .before .before .before .before .before .before .args .v in let f = form-3 v (omega arith) in rw (sized v 3 f, formed v 3 f) (search needs)
+
+pub put-spec : {M : Type 1} → statement M
+put-spec =
+    tie.close
+    (tie.spec
+    (λ c. search needs)
+    slice-write-out
+    (λ c. search needs)
+    (λ c. search needs)
+    returns
+    (λ c. search needs)
+    put-two-requires
+    (λ c. search needs)
+    (λ c. search needs)
+    returns-2
+    (λ c. search needs)
+    put-four-requires
+    (λ c. search needs)
+    (λ c. search needs)
+    returns-3
+    (λ c. search needs)
+    put-eight-requires
+    (λ c. search needs)
+    (λ c. search needs)
+    returns-4)
