@@ -23,9 +23,28 @@ first (a ∷ l) n = eqb (numberOf a) n ⇒ a ∣ first l n
 again : (a : Answer) → first cases (numberOf a) ≡ a
 unfolding first cases
 again a = elim a [
-      Accepted ↦ refl | Done ↦ refl | FlowControl ↦ refl | StreamLimit ↦ refl | StreamState ↦ refl | FinalSize ↦ refl | FrameEncoding ↦ refl
-    | ProtocolViolation ↦ refl | Closed ↦ refl | NotAbove ↦ refl | AboveCeiling ↦ refl | NotServed ↦ refl | SizeKnown ↦ refl | BelowRecord ↦ refl
-    | InRecord ↦ refl | NoRoom ↦ refl | Unwritable ↦ refl | NoPacket ↦ refl | NoSuchNumber ↦ refl | NothingToAcknowledge ↦ refl | DoesNotFit ↦ refl ]
+  | Accepted ↦ refl
+  | Done ↦ refl
+  | FlowControl ↦ refl
+  | StreamLimit ↦ refl
+  | StreamState ↦ refl
+  | FinalSize ↦ refl
+  | FrameEncoding ↦ refl
+  | ProtocolViolation ↦ refl
+  | Closed ↦ refl
+  | NotAbove ↦ refl
+  | AboveCeiling ↦ refl
+  | NotServed ↦ refl
+  | SizeKnown ↦ refl
+  | BelowRecord ↦ refl
+  | InRecord ↦ refl
+  | NoRoom ↦ refl
+  | Unwritable ↦ refl
+  | NoPacket ↦ refl
+  | NoSuchNumber ↦ refl
+  | NothingToAcknowledge ↦ refl
+  | DoesNotFit ↦ refl
+]
 
 pub one-case : (a b : Answer) → numberOf a ≡ numberOf b → a ≡ b
 one-case a b e = sym (again a) ∙ ap (first cases) e ∙ again b

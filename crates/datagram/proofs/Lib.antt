@@ -1,0 +1,4 @@
+pub mod Cases
+pub mod Inside
+pub mod Unseen
+pub mod Unique

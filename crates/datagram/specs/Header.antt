@@ -24,7 +24,7 @@ after p = p .at + p .len
 
 abbrev pub headerOf : Kind → ℕ → Part → Part → Part → ℕ → ℕ → Header
 headerOf kind version destination source token number end =
-    record { kind = kind; version = version; destination = destination; source = source; token = token; number_at = number; end = end }
+    record { kind = kind; version = version; destination = destination; source = source; token = token; number = number; end = end }
 
 -- a header after whose IDs all the rest belongs to the packet
 abbrev pub wholeOf : List ℕ → Kind → ℕ → Part → Part → Header

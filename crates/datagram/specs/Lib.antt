@@ -1,2 +1,4 @@
 pub mod Header
 pub mod Split
+pub mod Inside
+pub mod Unseen

@@ -25,9 +25,9 @@ none = Stop NoPacket
 
 -- as many bytes as a number says, from the place after it, if so many are there
 unfoldable pub bytesAfter : List ℕ → Number → Bytes
-bytesAfter s length′ =
-    withNumber length′ Bytes'.CutShort (λ len at.
-      ltb (length s) (at + len) ⇒ Bytes'.CutShort
+bytesAfter s count =
+    withNumber count Bytes'.CutShort (λ len at.
+    ltb (length s) (at + len) ⇒ Bytes'.CutShort
     ∣ Bytes'.Are (partOf at len))
 
 abbrev pub withBytes : {X : Type 0} → Bytes → X → (Part → X) → X
@@ -49,21 +49,21 @@ withInvariant Invariant'.CutShort x k = x
 -- version 0, Version Negotiation: the remainder is one or more whole 4-byte versions
 unfoldable pub negotiationOf : List ℕ → Part → Part → Next
 negotiationOf s destination source =
-      eqb (length s - after source) 0 ⇒ none
+    eqb (length s - after source) 0 ⇒ none
     ∣ not (eqb ((length s - after source) % 4) 0) ⇒ none
     ∣ Packet (wholeOf s VersionNegotiation 0 destination source)
 
 -- Retry takes the rest, at least 16 bytes (17.2.5: its token and its tag)
 unfoldable pub retryOf : List ℕ → Part → Part → Next
 retryOf s destination source =
-      ltb (length s - after source) 16 ⇒ none
+    ltb (length s - after source) 16 ⇒ none
     ∣ Packet (wholeOf s Retry 1 destination source)
 
 -- a Length, which counts from the packet number; it must be at least 20 (RFC 9001, 5.4.2: the sample is 16 bytes, 4 after that place) and fit
 unfoldable pub numberedOf : List ℕ → Kind → Part → Part → Part → Next
 numberedOf s kind destination source token =
     withBytes (bytesAfter s (numberAt s (after token))) none (λ counted.
-      ltb (counted .len) 20 ⇒ none
+    ltb (counted .len) 20 ⇒ none
     ∣ Packet (headerOf kind 1 destination source token (counted .at) (after counted)))
 
 -- Initial has a token after its length (17.2.2)
@@ -75,7 +75,7 @@ initialOf s destination source =
 -- bits 0x30: 0 Initial, 1 0-RTT, 2 Handshake, 3 Retry
 unfoldable pub typedOf : List ℕ → Part → Part → Next
 typedOf s destination source =
-      eqb (firstOf s / 16 % 4) 0 ⇒ initialOf s destination source
+    eqb (firstOf s / 16 % 4) 0 ⇒ initialOf s destination source
     ∣ eqb (firstOf s / 16 % 4) 1 ⇒ numberedOf s ZeroRtt destination source (partOf (after source) 0)
     ∣ eqb (firstOf s / 16 % 4) 2 ⇒ numberedOf s Handshake destination source (partOf (after source) 0)
     ∣ retryOf s destination source
@@ -83,7 +83,7 @@ typedOf s destination source =
 -- version 1: bit 0x40 must be set and ID lengths are 0 to 20
 unfoldable pub versionOneOf : List ℕ → Part → Part → Next
 versionOneOf s destination source =
-      not (bit 6 (firstOf s)) ⇒ none
+    not (bit 6 (firstOf s)) ⇒ none
     ∣ ltb 20 (destination .len) ⇒ none
     ∣ ltb 20 (source .len) ⇒ none
     ∣ typedOf s destination source
@@ -92,20 +92,20 @@ versionOneOf s destination source =
 unfoldable pub longOf : List ℕ → Next
 longOf s =
     withInvariant (invariantOf s) none (λ version destination source.
-      eqb version 0 ⇒ negotiationOf s destination source
+    eqb version 0 ⇒ negotiationOf s destination source
     ∣ eqb version 1 ⇒ versionOneOf s destination source
     ∣ Packet (wholeOf s OtherVersion version destination source))
 
 -- short: bit 0x40 set, 8-byte connection ID, then at least 20 bytes, to the end
 unfoldable pub shortOf : List ℕ → Next
 shortOf s =
-      not (bit 6 (firstOf s)) ⇒ none
+    not (bit 6 (firstOf s)) ⇒ none
     ∣ ltb (length s) (1 + 8 + 20) ⇒ none
     ∣ Packet (wholeOf s OneRtt 1 (partOf 1 8) (partOf 9 0))
 
 -- the next packet of a datagram whose rest is s; an empty rest is "done"
 unfoldable pub nextOf : List ℕ → Next
 nextOf s =
-      eqb (length s) 0 ⇒ Stop Done
+    eqb (length s) 0 ⇒ Stop Done
     ∣ bit 7 (firstOf s) ⇒ longOf s
     ∣ shortOf s

@@ -4,7 +4,6 @@ ghost use Prim.Native.Nat.{_+_, _≤_, _<_};
 ghost use lib.ListN.{length, getD};
 ghost use Rattle.datagram.specs.Header.{wholeOf};
 ghost use Rattle.datagram.specs.Split.{bytesAfter, invariantOf, negotiationOf, retryOf, numberedOf, initialOf, typedOf, versionOneOf, longOf, shortOf, nextOf};
-
 use answers::Answer;
 use wire::Number;
 
@@ -25,7 +24,7 @@ pub struct Part {
     pub len: usize,
 }
 
-// A packet's header. Places count from the start of the rest that was handed in; `number_at` is the place of the
+// A packet's header. Places count from the start of the rest that was handed in; `number` is the place of the
 // packet number, or of what follows the IDs where there is none, and `end` the place after the packet.
 pub struct Header {
     pub kind: Kind,
@@ -33,7 +32,7 @@ pub struct Header {
     pub destination: Part,
     pub source: Part,
     pub token: Part,
-    pub number_at: usize,
+    pub number: usize,
     pub end: usize,
 }
 
@@ -51,7 +50,11 @@ enum Bytes {
 
 // What every version has after a long header's first byte: the version and both IDs.
 enum Invariant {
-    Is { version: u64, destination: Part, source: Part },
+    Is {
+        version: u64,
+        destination: Part,
+        source: Part,
+    },
     CutShort,
 }
 
@@ -68,20 +71,231 @@ fn bytes_after(rest: &[u8], length: Number) -> Bytes
     if ((rest.len() - at) as u64) < value {
         return Bytes::CutShort;
     }
-    Bytes::Are { part: Part { at, len: value as usize } }
+    Bytes::Are {
+        part: Part {
+            at,
+            len: value as usize,
+        },
+    }
 }
 
-fn invariant(rest: &[u8]) -> Invariant
+// The version and both IDs of a long header.
+fn read_invariant(rest: &[u8]) -> Invariant
     ensures { λ r. ⌜ r ≡ invariantOf (now (rest .entry)) ⌝ }
 {
-    let Number::Is { value: version, next: at } = wire::word(rest, 1) else {
+    let Number::Is {
+        value: version,
+        next: at,
+    } = wire::word(rest, 1)
+    else {
         return Invariant::CutShort;
     };
     let Bytes::Are { part: destination } = bytes_after(rest, wire::byte(rest, at)) else {
         return Invariant::CutShort;
     };
-    let Bytes::Are { part: source } = bytes_after(rest, wire::byte(rest, destination.at + destination.len)) else {
+    let source_at = destination.at + destination.len;
+    let Bytes::Are { part: source } = bytes_after(rest, wire::byte(rest, source_at)) else {
         return Invariant::CutShort;
     };
-    Invariant::Is { version, destination, source }
+    Invariant::Is {
+        version,
+        destination,
+        source,
+    }
+}
+
+// A header after whose IDs all the rest belongs to the packet.
+fn whole(rest: &[u8], kind: Kind, version: u64, destination: Part, source: Part) -> Next
+    requires { ⌜ source .at + source .len ≤ length (now rest) ⌝ }
+    ensures { λ r. ⌜ r ≡ Next.Packet (wholeOf (now (rest .entry)) kind version destination source) ⌝ }
+{
+    let at = source.at + source.len;
+    let token = Part { at, len: 0 };
+    Next::Packet {
+        header: Header {
+            kind,
+            version,
+            destination,
+            source,
+            token,
+            number: at,
+            end: rest.len(),
+        },
+    }
+}
+
+fn negotiation(rest: &[u8], destination: Part, source: Part) -> Next
+    requires { ⌜ source .at + source .len ≤ length (now rest) ⌝ }
+    ensures { λ r. ⌜ r ≡ negotiationOf (now (rest .entry)) destination source ⌝ }
+{
+    let left = rest.len() - (source.at + source.len);
+    if left == 0 {
+        return Next::Stop {
+            answer: Answer::NoPacket,
+        };
+    }
+    if left % 4 != 0 {
+        return Next::Stop {
+            answer: Answer::NoPacket,
+        };
+    }
+    whole(rest, Kind::VersionNegotiation, 0, destination, source)
+}
+
+fn retry(rest: &[u8], destination: Part, source: Part) -> Next
+    requires { ⌜ source .at + source .len ≤ length (now rest) ⌝ }
+    ensures { λ r. ⌜ r ≡ retryOf (now (rest .entry)) destination source ⌝ }
+{
+    if rest.len() - (source.at + source.len) < 16 {
+        return Next::Stop {
+            answer: Answer::NoPacket,
+        };
+    }
+    whole(rest, Kind::Retry, 1, destination, source)
+}
+
+// A packet with a Length, which counts from the packet number and leaves room for a sample.
+fn numbered(rest: &[u8], kind: Kind, destination: Part, source: Part, token: Part) -> Next
+    requires { ⌜ token .at + token .len ≤ length (now rest) ⌝ }
+    ensures { λ r. ⌜ r ≡ numberedOf (now (rest .entry)) kind destination source token ⌝ }
+{
+    let length_at = token.at + token.len;
+    let Bytes::Are { part: counted } = bytes_after(rest, wire::read(rest, length_at)) else {
+        return Next::Stop {
+            answer: Answer::NoPacket,
+        };
+    };
+    if counted.len < 20 {
+        return Next::Stop {
+            answer: Answer::NoPacket,
+        };
+    }
+    let number = counted.at;
+    let end = counted.at + counted.len;
+    Next::Packet {
+        header: Header {
+            kind,
+            version: 1,
+            destination,
+            source,
+            token,
+            number,
+            end,
+        },
+    }
+}
+
+fn initial(rest: &[u8], destination: Part, source: Part) -> Next
+    requires { ⌜ source .at + source .len ≤ length (now rest) ⌝ }
+    ensures { λ r. ⌜ r ≡ initialOf (now (rest .entry)) destination source ⌝ }
+{
+    let length_at = source.at + source.len;
+    let Bytes::Are { part: token } = bytes_after(rest, wire::read(rest, length_at)) else {
+        return Next::Stop {
+            answer: Answer::NoPacket,
+        };
+    };
+    numbered(rest, Kind::Initial, destination, source, token)
+}
+
+// By the type of a long header of version 1. Its low four bits are protected and are not looked at.
+fn typed(rest: &[u8], first: u8, destination: Part, source: Part) -> Next
+    requires { ⌜ (first ≡ getD (now rest) 0 0) × (source .at + source .len ≤ length (now rest)) ⌝ }
+    ensures { λ r. ⌜ r ≡ typedOf (now (rest .entry)) destination source ⌝ }
+{
+    let none = Part {
+        at: source.at + source.len,
+        len: 0,
+    };
+    let form = first / 16 % 4;
+    if form == 0 {
+        return initial(rest, destination, source);
+    }
+    if form == 1 {
+        return numbered(rest, Kind::ZeroRtt, destination, source, none);
+    }
+    if form == 2 {
+        return numbered(rest, Kind::Handshake, destination, source, none);
+    }
+    retry(rest, destination, source)
+}
+
+fn version_one(rest: &[u8], first: u8, destination: Part, source: Part) -> Next
+    requires { ⌜ (first ≡ getD (now rest) 0 0) × (source .at + source .len ≤ length (now rest)) ⌝ }
+    ensures { λ r. ⌜ r ≡ versionOneOf (now (rest .entry)) destination source ⌝ }
+{
+    if first / 64 % 2 != 1 {
+        return Next::Stop {
+            answer: Answer::NoPacket,
+        };
+    }
+    if 20 < destination.len {
+        return Next::Stop {
+            answer: Answer::NoPacket,
+        };
+    }
+    if 20 < source.len {
+        return Next::Stop {
+            answer: Answer::NoPacket,
+        };
+    }
+    typed(rest, first, destination, source)
+}
+
+fn long(rest: &[u8], first: u8) -> Next
+    requires { ⌜ first ≡ getD (now rest) 0 0 ⌝ }
+    ensures { λ r. ⌜ r ≡ longOf (now (rest .entry)) ⌝ }
+{
+    let Invariant::Is {
+        version,
+        destination,
+        source,
+    } = read_invariant(rest)
+    else {
+        return Next::Stop {
+            answer: Answer::NoPacket,
+        };
+    };
+    if version == 0 {
+        return negotiation(rest, destination, source);
+    }
+    if version == 1 {
+        return version_one(rest, first, destination, source);
+    }
+    whole(rest, Kind::OtherVersion, version, destination, source)
+}
+
+fn short(rest: &[u8], first: u8) -> Next
+    requires { ⌜ first ≡ getD (now rest) 0 0 ⌝ }
+    ensures { λ r. ⌜ r ≡ shortOf (now (rest .entry)) ⌝ }
+{
+    if first / 64 % 2 != 1 {
+        return Next::Stop {
+            answer: Answer::NoPacket,
+        };
+    }
+    if rest.len() < 29 {
+        return Next::Stop {
+            answer: Answer::NoPacket,
+        };
+    }
+    let destination = Part { at: 1, len: 8 };
+    let source = Part { at: 9, len: 0 };
+    whole(rest, Kind::OneRtt, 1, destination, source)
+}
+
+// The header of the packet at the start of the rest of a datagram. The next rest begins at its end.
+pub fn split(rest: &[u8]) -> Next
+    ensures { λ r. ⌜ r ≡ nextOf (now (rest .entry)) ⌝ }
+{
+    if rest.len() == 0 {
+        return Next::Stop {
+            answer: Answer::Done,
+        };
+    }
+    let first = rest[0];
+    if first / 128 % 2 == 1 {
+        return long(rest, first);
+    }
+    short(rest, first)
 }

@@ -13,7 +13,7 @@ use Rattle.wire.specs.Number.{bigEndian, valuesIn, numberAt, spelled, fo
 use Rattle.wire.specs.declared.Number.the-variants.{Is}
 use Rattle.wire.proofs.BigEndian.{read-spelled, spelled-join, length-spelled}
 use Rattle.wire.proofs.Standing.{left, head}
-use Rattle.wire.proofs.Forms.{by-form, whole}
+use Rattle.wire.proofs.Forms.{by-form, there}
 
 -- by the cases of the form that v takes
 pub by-size : (v : ℕ) (P : ℕ → Type 0) → (v < 64 → P 0) → (64 ≤ v → v < 16384 → P 1) → (16384 ≤ v → v < 1073741824 → P 2) → (1073741824 ≤ v → P 3) → P (formOf v)
@@ -31,7 +31,7 @@ module _ (s : List ℕ) (at v f j x : ℕ) (fits : x < 256 ^ (1 + j)) (top : x /
       let first : getD s at 0 ≡ x / 256 ^ j % 256 = head _ _ (left (spelled 1 (x / 256 ^ j)) (spelled j x) (rw (spelled-join 1 j x) at st)) in
       let enough : at + (1 + j) ≤ length s = rw (length-spelled (1 + j) x) at (st .ends) in
       let all : bigEndian s at (1 + j) ≡ x = read-spelled s at (1 + j) x fits st in
-      by-form s at f (rw first top) ∙ rw e (whole s at (1 + j) enough ∙ rw (all, rest))
+      by-form s at f (rw first top) ∙ rw e (there s at (1 + j) _ enough ∙ rw (all, rest))
 
 -- the law: where the shortest form of v stands, v is read, and the place after it
 pub back : (s : List ℕ) (at v : ℕ) → v < 2 ^ 62 → Stands s at (bytesOf v) → numberAt s at ≡ Is v (at + sizeOf v)

@@ -7,7 +7,7 @@ use native.Mathlib.Nat.{add-zero, zero-add}
 use native.Mathlib.Omega.{arith}
 use borrow.Author.Tests.{lt-ltb, le-ltb}
 use lib.ListN.{length, getD, List·getD-eq-default}
-use Rattle.wire.specs.Number.{bigEndian, plainAt, valuesIn, formAt, numberAt, formOf, sizeOf, bytesOf, spelled}
+use Rattle.wire.specs.Number.{bigEndian, fieldAt, plainAt, valuesIn, formAt, numberAt, formOf, sizeOf, bytesOf, spelled}
 use Rattle.wire.specs.declared.Number.the-variants.{Is, CutShort}
 
 module _ (s : List ℕ) (at : ℕ) where
@@ -16,34 +16,26 @@ module _ (s : List ℕ) (at : ℕ) where
   unfolding numberAt
   by-form f e = ap (λ (g : ℕ). formAt s at (2 ^ g)) e
 
-  pub plain-whole : (k : ℕ) → at + k ≤ length s → plainAt s at k ≡ Is (bigEndian s at k) (at + k)
-  unfolding plainAt
-  plain-whole k h = simp (le-ltb _ _ h)
+  pub there : (k x : ℕ) → at + k ≤ length s → fieldAt s at k x ≡ Is x (at + k)
+  unfolding fieldAt
+  there k x h = simp (le-ltb _ _ h)
 
+  pub cut : (k x : ℕ) → length s < at + k → fieldAt s at k x ≡ CutShort
+  unfolding fieldAt
+  cut k x h = simp (lt-ltb _ _ h)
+
+  -- one byte is its own value, and a number of that form is below 64
   pub plain-byte : at + 1 ≤ length s → plainAt s at 1 ≡ Is (getD s at 0) (at + 1)
   unfolding bigEndian
-  plain-byte h = plain-whole 1 h ∙ rw (add-zero, zero-add)
+  plain-byte h = there 1 _ h ∙ rw (add-zero, zero-add)
 
-  pub plain-cut : (k : ℕ) → length s < at + k → plainAt s at k ≡ CutShort
-  unfolding plainAt
-  plain-cut k h = simp (lt-ltb _ _ h)
-
-  pub whole : (k : ℕ) → at + k ≤ length s → formAt s at k ≡ Is (bigEndian s at k % valuesIn k) (at + k)
-  unfolding formAt
-  whole k h = simp (le-ltb _ _ h)
-
-  -- a number in one byte is that byte
-  pub whole-byte : getD s at 0 < 64 → at + 1 ≤ length s → formAt s at 1 ≡ Is (getD s at 0) (at + 1)
+  pub form-byte : getD s at 0 < 64 → at + 1 ≤ length s → formAt s at 1 ≡ Is (getD s at 0) (at + 1)
   unfolding bigEndian valuesIn
-  whole-byte h k = whole 1 k ∙ rw add-zero (ap (λ (v : ℕ). Is v (at + 1)) (omega arith))
-
-  pub cut : (k : ℕ) → length s < at + k → formAt s at k ≡ CutShort
-  unfolding formAt
-  cut k h = simp (lt-ltb _ _ h)
+  form-byte h k = there 1 _ k ∙ rw add-zero (ap (λ (v : ℕ). Is v (at + 1)) (omega arith))
 
   -- past the end nothing is read
   pub past : length s ≤ at → numberAt s at ≡ CutShort
-  past h = by-form 0 (rw (List·getD-eq-default s 0 h)) ∙ cut 1 (omega arith)
+  past h = by-form 0 (rw (List·getD-eq-default s 0 h)) ∙ cut 1 _ (omega arith)
 
 module _ (v : ℕ) where
   pub form-0 : v < 64 → formOf v ≡ 0

@@ -1,23 +1,21 @@
 -- Whether a number stands in its shortest form is told by its value and its two places (W2): the test holds exactly where the bytes there are that form.
 -- Assumes nothing.
 use mathlib.Core.Path.{_≡_, refl, sym, _∙_, ap}
-use mathlib.Core.Bool.{Bool, true, false}
+use mathlib.Core.Bool.{true}
 use mathlib.Core.List.{List, [], _∷_, _++_}
 use Prim.Native.Nat.{ℕ, zero, suc, _+_, _*_, _-_, _/_, _%_, _^_, _≤_, _<_}
 use native.Mathlib.Nat.{add-zero, zero-add, pow-suc}
 use native.Mathlib.Omega.{arith}
-use borrow.Author.Tests.{ltb-false, eqb-true, eq-eqb}
-use lib.Dec.{ltb}
+use borrow.Author.Tests.{eqb-true, eq-eqb}
 use lib.Pow.{pow-lt}
 use lib.ListN.{length, getD}
 use Rattle.answers.proofs.Choice.{below-or-not}
-use Rattle.answers.specs.Choice.{_⇒_∣_}
 use Rattle.wire.specs.Number.{bigEndian, valuesIn, numberAt, formAt, spelled, formOf, sizeOf, bytesOf, shortest, Stands}
-use Rattle.wire.specs.declared.Number.the-variants.{Is, CutShort}
+use Rattle.wire.specs.declared.Number.the-variants.{Is}
 use Rattle.wire.proofs.BigEndian.{join, length-spelled}
 use Rattle.wire.proofs.Standing.{append, one}
 use Rattle.wire.proofs.Back.{back}
-use Rattle.wire.proofs.Sound.{sound, four}
+use Rattle.wire.proofs.Sound.{sound, found, four}
 use Rattle.wire.proofs.Forms.{formed}
 
 -- the form is fixed by its size
@@ -26,16 +24,6 @@ unfolding sizeOf
 form-by-size v f e =
     below-or-not (formOf v) f (λ h. absurd (omega (arith, pow-lt h)))
     (λ h. below-or-not f (formOf v) (λ k. absurd (omega (arith, pow-lt k))) (λ k. omega arith))
-
-module _ (s : List ℕ) (at k v n : ℕ) where
-  -- what a form that was read says
-  read-form : formAt s at k ≡ Is v n → (at + k ≤ length s) × (v ≡ bigEndian s at k % valuesIn k) × (n ≡ at + k)
-  unfolding formAt
-  read-form = go (ltb (length s) (at + k)) refl
-    where
-      go : (b : Bool) → ltb (length s) (at + k) ≡ b → (b ⇒ CutShort ∣ Is (bigEndian s at k % valuesIn k) (at + k)) ≡ Is v n → (at + k ≤ length s) × (v ≡ bigEndian s at k % valuesIn k) × (n ≡ at + k)
-      go true p e = let z : _≡_ {A = ℕ} 0 1 = cc in absurd (omega arith)
-      go false p e = (ltb-false _ _ p, cc, cc)
 
 module _ (s : List ℕ) (bytes : (i : ℕ) → getD s i 0 < 256) where
   low : (at k : ℕ) → bigEndian s at k < 256 ^ k
@@ -63,9 +51,9 @@ module _ (s : List ℕ) (bytes : (i : ℕ) → getD s i 0 < 256) where
   form-stands : (at v n f k : ℕ) → 2 ^ f ≡ k → bigEndian s at k ≡ f * valuesIn k + bigEndian s at k % valuesIn k → shortest at v n ≡ true → formAt s at k ≡ Is v n → Stands s at (bytesOf v)
   unfolding shortest
   form-stands at v n f k e top t q =
-      let r = read-form s at k v n q in
-      let z : sizeOf v ≡ 2 ^ f = omega (arith, e, r .2, eqb-true n (at + sizeOf v) t) in
-      rw (formed v f (form-by-size v f z), e, r .1, ← top) (spelled-read at k (r .0))
+      let r = found s at k _ q in
+      let z : sizeOf v ≡ 2 ^ f = omega (arith, e, r .ends, eqb-true n (at + sizeOf v) t) in
+      rw (formed v f (form-by-size v f z), e, r .value, ← top) (spelled-read at k (r .within))
 
   pub shortest-stands : (at : ℕ) {v n : ℕ} → numberAt s at ≡ Is v n → shortest at v n ≡ true → Stands s at (bytesOf v)
   unfolding numberAt valuesIn

@@ -14,21 +14,23 @@ unfoldable pub bigEndian : List ℕ → ℕ → ℕ → ℕ
 bigEndian s at zero = 0
 bigEndian s at (suc k) = bigEndian s at k * 256 + getD s (at + k) 0
 
--- the value of k bytes at a place and the place after them, if so many are there: a plain field of a fixed length
-unfoldable pub plainAt : List ℕ → ℕ → ℕ → Number
-plainAt s at k =
-      ltb (length s) (at + k) ⇒ CutShort
-    ∣ Is (bigEndian s at k) (at + k)
+-- a field of k bytes at a place with the value x: x and the place after it, if so many bytes are there
+unfoldable pub fieldAt : List ℕ → ℕ → ℕ → ℕ → Number
+fieldAt s at k x =
+    ltb (length s) (at + k) ⇒ CutShort
+    ∣ Is x (at + k)
+
+-- a plain field of k bytes: all of its bits are the value
+abbrev pub plainAt : List ℕ → ℕ → ℕ → Number
+plainAt s at k = fieldAt s at k (bigEndian s at k)
 
 -- how many values a form of k bytes has: all of its bits but two
 unfoldable pub valuesIn : ℕ → ℕ
 valuesIn k = 2 ^ (8 * k - 2)
 
--- the number in k bytes at a place, if so many are there
-unfoldable pub formAt : List ℕ → ℕ → ℕ → Number
-formAt s at k =
-      ltb (length s) (at + k) ⇒ CutShort
-    ∣ Is (bigEndian s at k % valuesIn k) (at + k)
+-- a number in a form of k bytes: all of its bits but the top two are the value
+abbrev pub formAt : List ℕ → ℕ → ℕ → Number
+formAt s at k = fieldAt s at k (bigEndian s at k % valuesIn k)
 
 -- the number at a place
 unfoldable pub numberAt : List ℕ → ℕ → Number
@@ -47,7 +49,7 @@ spelled (suc k) x = spelled k (x / 256) ++ (x % 256 ∷ [])
 -- the top two bits of the shortest form of v: the first form that holds it
 unfoldable pub formOf : ℕ → ℕ
 formOf v =
-      ltb v (2 ^ 6) ⇒ 0
+    ltb v (2 ^ 6) ⇒ 0
     ∣ ltb v (2 ^ 14) ⇒ 1
     ∣ ltb v (2 ^ 30) ⇒ 2
     ∣ 3

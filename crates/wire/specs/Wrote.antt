@@ -15,14 +15,14 @@ use Rattle.wire.specs.declared.Wrote.the-variants.{To, Refused}
 -- the answer, from the output's length n
 unfoldable pub wroteOf : ℕ → ℕ → ℕ → Wrote
 wroteOf n at v =
-      ltb (2 ^ 62 - 1) v ⇒ Refused Unwritable
+    ltb (2 ^ 62 - 1) v ⇒ Refused Unwritable
     ∣ ltb n (at + sizeOf v) ⇒ Refused NoRoom
     ∣ To (at + sizeOf v)
 
 -- the output at exit: the shortest form of v at the place and all else as it was; after a refusal all as it was
 unfoldable pub outOf : List ℕ → ℕ → ℕ → List ℕ
 outOf out at v =
-      ltb (2 ^ 62 - 1) v ⇒ out
+    ltb (2 ^ 62 - 1) v ⇒ out
     ∣ ltb (length out) (at + sizeOf v) ⇒ out
     ∣ sets out at (bytesOf v)
 

@@ -5,7 +5,6 @@ ghost use lib.ListN.{length};
 ghost use lib.Seq.{sets};
 ghost use Rattle.wire.specs.Number.{bigEndian, spelled, plainAt, numberAt, bytesOf, sizeOf};
 ghost use Rattle.wire.specs.Wrote.{wroteOf, outOf};
-
 use answers::Answer;
 
 // What reading a number at a place finds: its value and the place after it, or an end of the bytes before its own.
@@ -57,7 +56,10 @@ pub fn byte(s: &[u8], at: usize) -> Number
     if s.len() <= at {
         return Number::CutShort;
     }
-    Number::Is { value: wide(s[at]), next: at + 1 }
+    Number::Is {
+        value: wide(s[at]),
+        next: at + 1,
+    }
 }
 
 // Four bytes at a place as a plain number, as a version is held.
@@ -70,7 +72,10 @@ pub fn word(s: &[u8], at: usize) -> Number
     if s.len() - at < 4 {
         return Number::CutShort;
     }
-    Number::Is { value: four(s, at), next: at + 4 }
+    Number::Is {
+        value: four(s, at),
+        next: at + 4,
+    }
 }
 
 // Reads the number at a place.
@@ -83,24 +88,36 @@ pub fn read(s: &[u8], at: usize) -> Number
     let left = s.len() - at;
     let first = s[at];
     if first < 64 {
-        return Number::Is { value: wide(first), next: at + 1 };
+        return Number::Is {
+            value: wide(first),
+            next: at + 1,
+        };
     }
     if first < 128 {
         if left < 2 {
             return Number::CutShort;
         }
-        return Number::Is { value: two(s, at) % 16384, next: at + 2 };
+        return Number::Is {
+            value: two(s, at) % 16384,
+            next: at + 2,
+        };
     }
     if first < 192 {
         if left < 4 {
             return Number::CutShort;
         }
-        return Number::Is { value: four(s, at) % 1073741824, next: at + 4 };
+        return Number::Is {
+            value: four(s, at) % 1073741824,
+            next: at + 4,
+        };
     }
     if left < 8 {
         return Number::CutShort;
     }
-    Number::Is { value: eight(s, at) % 4611686018427387904, next: at + 8 }
+    Number::Is {
+        value: eight(s, at) % 4611686018427387904,
+        next: at + 8,
+    }
 }
 
 // How many bytes the shortest form of v has.
@@ -169,13 +186,21 @@ pub fn write(out: &mut [u8], at: usize, v: u64) -> Wrote
     ensures { λ r. ⌜ (r ≡ wroteOf (length (now (out .entry))) at v) × (now (out .exit) ≡ outOf (now (out .entry)) at v) ⌝ }
 {
     if MOST < v {
-        return Wrote::Refused { answer: Answer::Unwritable };
+        return Wrote::Refused {
+            answer: Answer::Unwritable,
+        };
     }
     if out.len() < at {
-        return Wrote::Refused { answer: Answer::NoRoom };
+        return Wrote::Refused {
+            answer: Answer::NoRoom,
+        };
     }
     if out.len() - at < size(v) {
-        return Wrote::Refused { answer: Answer::NoRoom };
+        return Wrote::Refused {
+            answer: Answer::NoRoom,
+        };
     }
-    Wrote::To { next: put(out, at, v) }
+    Wrote::To {
+        next: put(out, at, v),
+    }
 }

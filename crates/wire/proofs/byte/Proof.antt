@@ -2,12 +2,12 @@
 -- Assumes nothing.
 use borrow.Author.Needs.{needs}
 use mathlib.Core.Path.{sym}
-use Rattle.wire.proofs.Forms.{plain-byte, plain-cut}
+use Rattle.wire.proofs.Forms.{plain-byte, cut}
 use Rattle.wire.proofs.byte.Statement.{statement}
 use Rattle.wire.proofs.byte.Tie as tie
 
 returns : tie.Need-returns
-returns c = sym (plain-cut _ _ 1 (search needs))
+returns c = sym (cut _ _ 1 _ (search needs))
 
 returns-2 : tie.Need-returns-2
 returns-2 c = rw (c .wide .ensures .0) (sym (plain-byte _ _ (search needs)))

@@ -2,18 +2,18 @@
 -- Assumes nothing.
 use borrow.Author.Needs.{needs}
 use mathlib.Core.Path.{sym}
-use Rattle.wire.proofs.Forms.{plain-whole, plain-cut}
+use Rattle.wire.proofs.Forms.{there, cut}
 use Rattle.wire.proofs.word.Statement.{statement}
 use Rattle.wire.proofs.word.Tie as tie
 
 returns : tie.Need-returns
-returns c = sym (plain-cut _ _ 4 (search needs))
+returns c = sym (cut _ _ 4 _ (search needs))
 
 returns-2 : tie.Need-returns-2
-returns-2 c = sym (plain-cut _ _ 4 (search needs))
+returns-2 c = sym (cut _ _ 4 _ (search needs))
 
 returns-3 : tie.Need-returns-3
-returns-3 c = rw (c .four .ensures .0) (sym (plain-whole _ _ 4 (search needs)))
+returns-3 c = rw (c .four .ensures .0) (sym (there _ _ 4 _ (search needs)))
 
 pub word-spec : {M : Type 1} → statement M
 word-spec =

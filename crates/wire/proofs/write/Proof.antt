@@ -18,19 +18,19 @@ returns c = simp (lt-ltb _ _ (c .if1 .taken)) (refl, refl)
 
 returns-2 : tie.Need-returns-2
 unfolding wroteOf outOf
-returns-2 c = 
+returns-2 c =
     let a = c .before .before .before .args in
     simp (le-ltb _ _ (c .before .if1 .left), lt-ltb (length (now (a .out))) (a .at + sizeOf (a .v)) (omega arith)) (refl, refl)
 
 returns-3 : tie.Need-returns-3
 unfolding wroteOf outOf
-returns-3 c = 
+returns-3 c =
     let a = c .before .before .before .before .before .args in
     simp (le-ltb _ _ (c .before .before .before .if1 .left), lt-ltb (length (now (a .out))) (a .at + sizeOf (a .v)) (omega (arith, c .before .size .ensures))) (refl, refl)
 
 returns-4 : tie.Need-returns-4
 unfolding wroteOf outOf
-returns-4 c = 
+returns-4 c =
     let p = c .before .before .before .before .before in
     let a = p .before .before .before .before .args in
     simp (le-ltb _ _ (p .before .before .if1 .left), le-ltb (length (now (a .out))) (a .at + sizeOf (a .v)) (omega (arith, p .size .ensures)), c .before .before .put .ensures .0)

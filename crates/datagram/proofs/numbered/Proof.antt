@@ -1,0 +1,41 @@
+-- `datagram::numbered` meets its contract: the Length and the bytes that it counts are read as in the definition, and the test is its own.
+-- Assumes nothing.
+use borrow.Author.Needs.{needs}
+use mathlib.Core.Path.{sym, _∙_}
+use native.Mathlib.Omega.{arith}
+use borrow.Author.Tests.{lt-ltb, le-ltb, eq-eqb, ne-eqb}
+use Rattle.datagram.proofs.Cases.{counted}
+use Rattle.datagram.specs.Split.{numberedOf}
+use Rattle.datagram.proofs.numbered.Statement.{statement}
+use Rattle.datagram.proofs.numbered.Tie as tie
+
+returns : tie.Need-returns
+unfolding numberedOf
+returns c = rw (← c .before .before .before .read .ensures, sym (c .before .before .bytes-after .ensures) ∙ c .enum-told .given .1)
+
+returns-2 : tie.Need-returns-2
+unfolding numberedOf
+returns-2 c = let r = c .before .before .before .before .before in
+    rw (← r .before .read .ensures, sym (r .bytes-after .ensures) ∙ c .before .before .before .counted .given .1, lt-ltb _ _ (c .if1 .taken))
+
+add-end : tie.Need-add-end
+add-end c = let r = c .before .before .before .before .before .before in omega (arith, counted _ _ (sym (r .bytes-after .ensures) ∙ c .before .before .before .before .counted .given .1) .within)
+
+returns-3 : tie.Need-returns-3
+unfolding numberedOf
+returns-3 c = let r = c .before .before .before .before .before .before in
+    rw (← r .before .read .ensures, sym (r .bytes-after .ensures) ∙ c .before .before .before .before .counted .given .1, le-ltb _ _ (c .before .if1 .left))
+
+pub numbered-spec : {M : Type 1} → statement M
+numbered-spec =
+    tie.close
+    (tie.spec
+    (λ c. search needs)
+    (λ c κs. search needs)
+    (λ c κs. search needs)
+    (λ c. search needs)
+    (λ c. search needs)
+    returns
+    returns-2
+    add-end
+    returns-3)

@@ -1,0 +1,30 @@
+-- `datagram::split` meets its contract: its tests are those of the definition.
+-- Assumes nothing.
+use borrow.Author.Needs.{needs}
+use borrow.Author.Tests.{lt-ltb, le-ltb, eq-eqb, ne-eqb}
+use Rattle.datagram.specs.Split.{nextOf}
+use Rattle.datagram.proofs.split.Statement.{statement}
+use Rattle.datagram.proofs.split.Tie as tie
+
+returns : tie.Need-returns
+unfolding nextOf
+returns c = simp (eq-eqb _ _ (c .if1 .taken))
+
+returns-2 : tie.Need-returns-2
+unfolding nextOf
+returns-2 c = rw (ne-eqb _ _ (c .before .before .before .if1 .left), eq-eqb _ _ (c .before .if2 .taken)) (c .long .ensures)
+
+returns-3 : tie.Need-returns-3
+unfolding nextOf
+returns-3 c = rw (ne-eqb _ _ (c .before .before .before .if1 .left), ne-eqb _ _ (c .before .if2 .left)) (c .short .ensures)
+
+pub split-spec : {M : Type 1} → statement M
+split-spec =
+    tie.close
+    (tie.spec
+    returns
+    (λ c. search needs)
+    (λ c κs. search needs)
+    returns-2
+    (λ c κs. search needs)
+    returns-3)
