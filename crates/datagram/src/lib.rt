@@ -59,10 +59,10 @@ enum Invariant {
 }
 
 // As many bytes as a number says, from the place after it.
-fn bytes_after(rest: &[u8], length: Number) -> Bytes
-    ensures { λ r. ⌜ r ≡ bytesAfter (now (rest .entry)) length ⌝ }
+fn bytes_after(rest: &[u8], count: Number) -> Bytes
+    ensures { λ r. ⌜ r ≡ bytesAfter (now (rest .entry)) count ⌝ }
 {
-    let Number::Is { value, next: at } = length else {
+    let Number::Is { value, next: at } = count else {
         return Bytes::CutShort;
     };
     if rest.len() < at {

@@ -13,13 +13,13 @@ unfolding bytesAfter
 returns c = rw (c .enum-told .given .1)
 
 returns-2 : tie.Need-returns-2
-returns-2 c = rw (c .before .before .length .given .1) (sym (cut _ _ _ (omega arith)))
+returns-2 c = rw (c .before .before .count .given .1) (sym (cut _ _ _ (omega arith)))
 
 returns-3 : tie.Need-returns-3
-returns-3 c = rw (c .before .before .before .length .given .1) (sym (cut _ _ _ (omega arith)))
+returns-3 c = rw (c .before .before .before .count .given .1) (sym (cut _ _ _ (omega arith)))
 
 returns-4 : tie.Need-returns-4
-returns-4 c = rw (c .before .before .before .length .given .1) (sym (are _ _ _ (omega arith)))
+returns-4 c = rw (c .before .before .before .count .given .1) (sym (are _ _ _ (omega arith)))
 
 pub bytes-after-spec : {M : Type 1} → statement M
 bytes-after-spec =
