@@ -20,32 +20,21 @@ fn kind(k: Kind) {
 fn header(s: &[u8], h: Header) {
     let k = h.kind;
     kind(k);
-    print::text(b" ");
-    print::number(h.version);
-    print::text(b" ");
-    print::part(s, h.destination.at, h.destination.len);
-    print::text(b" ");
-    print::part(s, h.source.at, h.source.len);
-    print::text(b" ");
-    print::part(s, h.token.at, h.token.len);
-    print::text(b" ");
-    print::number(h.number as u64);
-    print::text(b" ");
-    print::number(h.end as u64);
+    print::labelled(b" ", h.version);
+    print::part(b" ", s, h.destination.at, h.destination.len);
+    print::part(b" ", s, h.source.at, h.source.len);
+    print::part(b" ", s, h.token.at, h.token.len);
+    print::labelled(b" ", h.number as u64);
+    print::labelled(b" ", h.end as u64);
 }
 
-// The header of a datagram's first packet, beside what it should be.
-fn split(name: &[u8], datagram: &[u8], should: &[u8]) {
-    print::text(b"RFC 9001, ");
-    print::text(name);
-    print::text(b": ");
+// The header of a datagram's first packet, or the answer where there is none, and what it should be.
+fn split(datagram: &[u8], should: &[u8]) {
     match datagram::split(datagram) {
         Next::Packet { header: h } => header(datagram, h),
-        Next::Stop { answer } => print::number(answer.number()),
+        Next::Stop { answer } => print::labelled(b"", answer.number()),
     }
-    print::text(b", should be ");
     print::text(should);
-    print::text(b"\n");
 }
 
 // Puts the first bytes of a packet into a datagram. What follows them there, the protected payload, stays zero.
@@ -58,32 +47,35 @@ fn begin(datagram: &mut [u8], head: &[u8]) {
 }
 
 // A.2 and A.3: the Initial packets of the client, with 1,200 bytes, and of the server, with 135.
-fn initials() {
+pub fn initials() {
     let mut client = [0u8; 1200];
     begin(
         &mut client,
         b"\xc0\x00\x00\x00\x01\x08\x83\x94\xc8\xf0\x3e\x51\x57\x08\x00\x00\x44\x9e\x7b\x9a\xec\x34",
     );
-    split(b"A.2", &client, b"Initial 1 8394c8f03e515708 - - 18 1200");
+    split(
+        &client,
+        b", should be Initial 1 8394c8f03e515708 - - 18 1200\n",
+    );
     let mut server = [0u8; 135];
     begin(
         &mut server,
         b"\xcf\x00\x00\x00\x01\x00\x08\xf0\x67\xa5\x50\x2a\x42\x62\xb5\x00\x40\x75\xc0\xd9",
     );
-    split(b"A.3", &server, b"Initial 1 - f067a5502a4262b5 - 18 135");
+    split(
+        &server,
+        b", should be Initial 1 - f067a5502a4262b5 - 18 135\n",
+    );
 }
 
-pub fn run() {
-    initials();
+// A.4, a Retry, and A.5, a short header with no connection ID: ours have 8 bytes, so to us its 21 bytes are no packet.
+pub fn others() {
     split(
-        b"A.4",
         b"\xff\x00\x00\x00\x01\x00\x08\xf0\x67\xa5\x50\x2a\x42\x62\xb5\x74\x6f\x6b\x65\x6e\x04\xa2\x65\xba\x2e\xff\x4d\x82\x90\x58\xfb\x3f\x0f\x24\x96\xba",
-        b"Retry 1 - f067a5502a4262b5 - 15 36",
+        b", should be Retry 1 - f067a5502a4262b5 - 15 36\n",
     );
-    // a short header with no connection ID: our IDs have 8 bytes, so 21 bytes are no packet to us
     split(
-        b"A.5",
         b"\x4c\xfe\x41\x89\x65\x5e\x5c\xd5\x5c\x41\xf6\x90\x80\x57\x5d\x79\x99\xc2\x5a\x5b\xfb",
-        b"110",
+        b", should be 110\n",
     );
 }

@@ -4,6 +4,10 @@ mod numbers;
 mod print;
 
 fn main() {
-    numbers::run();
-    headers::run();
+    print::text(b"RFC 9000, A.1\n");
+    numbers::reads();
+    numbers::writes();
+    print::text(b"RFC 9001, A.2 to A.5\n");
+    headers::initials();
+    headers::others();
 }

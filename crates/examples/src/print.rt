@@ -1,19 +1,21 @@
-// What the examples are printed with: a text, a number, bytes in hexadecimal.
+// What the examples are printed with: texts, numbers, and bytes in hexadecimal.
 use wire::Number;
 
 pub fn text(t: &[u8]) {
     io::write_all(libc::STDOUT_FILENO, t);
 }
 
-pub fn number(n: u64) {
+// A text and a number.
+pub fn labelled(t: &[u8], n: u64) {
+    text(t);
     io::print_decimal(libc::STDOUT_FILENO, n);
 }
 
-// All bytes of s, or "-" if there are none.
-pub fn bytes(s: &[u8]) {
+// A text and all bytes of s, or "-" if there are none.
+pub fn bytes(t: &[u8], s: &[u8]) {
+    text(t);
     if s.len() == 0 {
         text(b"-");
-        return;
     }
     let mut at = 0;
     while at < s.len() {
@@ -24,8 +26,8 @@ pub fn bytes(s: &[u8]) {
     }
 }
 
-// The bytes of s from a place on, as many as it has of len.
-pub fn part(s: &[u8], at: usize, len: usize) {
+// A text and as many bytes of s from a place on, if it has so many.
+pub fn part(t: &[u8], s: &[u8], at: usize, len: usize) {
     if s.len() < at {
         return;
     }
@@ -33,5 +35,5 @@ pub fn part(s: &[u8], at: usize, len: usize) {
         return;
     }
     let end = at + len;
-    bytes(&s[at..end]);
+    bytes(t, &s[at..end]);
 }

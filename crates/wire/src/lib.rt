@@ -53,13 +53,13 @@ fn eight(s: &[u8], at: usize) -> u64
 pub fn byte(s: &[u8], at: usize) -> Number
     ensures { λ r. ⌜ r ≡ plainAt (now (s .entry)) at 1 ⌝ }
 {
-    if s.len() <= at {
-        return Number::CutShort;
+    if at < s.len() {
+        return Number::Is {
+            value: wide(s[at]),
+            next: at + 1,
+        };
     }
-    Number::Is {
-        value: wide(s[at]),
-        next: at + 1,
-    }
+    Number::CutShort
 }
 
 // Four bytes at a place as a plain number, as a version is held.
