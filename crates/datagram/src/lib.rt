@@ -2,6 +2,7 @@
 ghost use mathlib.Core.Path.{_≡_};
 ghost use Prim.Native.Nat.{_+_, _≤_, _<_};
 ghost use lib.ListN.{length, getD};
+ghost use Rattle.wire.specs.Number.{bigEndian, plainAt};
 ghost use Rattle.datagram.specs.Header.{wholeOf};
 ghost use Rattle.datagram.specs.Split.{bytesAfter, invariantOf, negotiationOf, retryOf, numberedOf, initialOf, typedOf, versionOneOf, longOf, shortOf, nextOf};
 use answers::Answer;
@@ -79,26 +80,53 @@ fn bytes_after(rest: &[u8], count: Number) -> Bytes
     }
 }
 
+fn wide(x: u8) -> u64
+    ensures { λ r. ⌜ (r ≡ x) × (r < 256) ⌝ }
+{
+    x as u64
+}
+
+// The four bytes after the first.
+fn version_of(rest: &[u8]) -> u64
+    requires { ⌜ 5 ≤ length (now rest) ⌝ }
+    ensures { λ r. ⌜ r ≡ bigEndian (now (rest .entry)) 1 4 ⌝ }
+{
+    wide(rest[1]) * 16777216 + wide(rest[2]) * 65536 + wide(rest[3]) * 256 + wide(rest[4])
+}
+
+// A connection ID after its length, which is a plain byte.
+fn id_at(rest: &[u8], at: usize) -> Bytes
+    ensures { λ r. ⌜ r ≡ bytesAfter (now (rest .entry)) (plainAt (now (rest .entry)) at 1) ⌝ }
+{
+    if rest.len() <= at {
+        return Bytes::CutShort;
+    }
+    let value = wide(rest[at]);
+    bytes_after(
+        rest,
+        Number::Is {
+            value,
+            next: at + 1,
+        },
+    )
+}
+
 // The version and both IDs of a long header.
 fn read_invariant(rest: &[u8]) -> Invariant
     ensures { λ r. ⌜ r ≡ invariantOf (now (rest .entry)) ⌝ }
 {
-    let Number::Is {
-        value: version,
-        next: at,
-    } = wire::word(rest, 1)
-    else {
+    if rest.len() < 5 {
         return Invariant::CutShort;
-    };
-    let Bytes::Are { part: destination } = bytes_after(rest, wire::byte(rest, at)) else {
+    }
+    let Bytes::Are { part: destination } = id_at(rest, 5) else {
         return Invariant::CutShort;
     };
     let source_at = destination.at + destination.len;
-    let Bytes::Are { part: source } = bytes_after(rest, wire::byte(rest, source_at)) else {
+    let Bytes::Are { part: source } = id_at(rest, source_at) else {
         return Invariant::CutShort;
     };
     Invariant::Is {
-        version,
+        version: version_of(rest),
         destination,
         source,
     }

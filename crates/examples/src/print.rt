@@ -1,6 +1,4 @@
 // What the examples are printed with: texts, numbers, and bytes in hexadecimal.
-use wire::Number;
-
 pub fn text(t: &[u8]) {
     io::write_all(libc::STDOUT_FILENO, t);
 }
@@ -19,9 +17,7 @@ pub fn bytes(t: &[u8], s: &[u8]) {
     }
     let mut at = 0;
     while at < s.len() {
-        if let Number::Is { value, next: _ } = wire::byte(s, at) {
-            io::print_hex(libc::STDOUT_FILENO, value, 2);
-        }
+        io::print_hex(libc::STDOUT_FILENO, s[at] as u64, 2);
         at += 1;
     }
 }

@@ -1,4 +1,4 @@
--- The contracts of `byte`, `word`, `read`, `size` and `write` are firm: each is an equation of the answer, and `write`'s of the output too.
+-- The contracts of `read`, `size` and `write` are firm: each is an equation of the answer, and `write`'s of the output too.
 -- Assumes nothing.
 use mathlib.Core.Path.{_≡_, sym, _∙_, ap}
 use mathlib.Core.List.{List}
@@ -6,22 +6,12 @@ use Prim.Native.Nat.{ℕ}
 use denote.Ref.{now}
 use Rattle.answers.specs.Firm.{Firm, FirmAnswer}
 use Rattle.wire.specs.declared.Wrote.{Wrote}
-use Rattle.wire.proofs.byte.Kinds as byte
-use Rattle.wire.proofs.byte.Reads as byting
-use Rattle.wire.proofs.word.Kinds as word
-use Rattle.wire.proofs.word.Reads as wording
 use Rattle.wire.proofs.read.Kinds as read
 use Rattle.wire.proofs.read.Reads as reading
 use Rattle.wire.proofs.size.Kinds as size
 use Rattle.wire.proofs.size.Reads as sizing
 use Rattle.wire.proofs.write.Kinds as write
 use Rattle.wire.proofs.write.Reads as writing
-
-pub byte-firm : FirmAnswer 1 byte.ps byte.r byting.Asked byting.Post
-byte-firm = record { asks-nothing = λ κs a. tt; one-outcome = λ κs a x y s t p q. p ∙ sym q }
-
-pub word-firm : FirmAnswer 1 word.ps word.r wording.Asked wording.Post
-word-firm = record { asks-nothing = λ κs a. tt; one-outcome = λ κs a x y s t p q. p ∙ sym q }
 
 pub read-firm : FirmAnswer 1 read.ps read.r reading.Asked reading.Post
 read-firm = record { asks-nothing = λ κs a. tt; one-outcome = λ κs a x y s t p q. p ∙ sym q }

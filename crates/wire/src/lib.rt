@@ -1,9 +1,9 @@
 // Numbers on the wire (RFC 9000, section 16): read, sized and written.
 ghost use mathlib.Core.Path.{_≡_};
-ghost use Prim.Native.Nat.{_+_, _≤_, _<_, _^_};
+ghost use Prim.Native.Nat.{_+_, _-_, _≤_, _<_, _^_};
 ghost use lib.ListN.{length};
 ghost use lib.Seq.{sets};
-ghost use Rattle.wire.specs.Number.{bigEndian, spelled, plainAt, numberAt, bytesOf, sizeOf};
+ghost use Rattle.wire.specs.Number.{bigEndian, spelled, numberAt, bytesOf, sizeOf};
 ghost use Rattle.wire.specs.Wrote.{wroteOf, outOf};
 use answers::Answer;
 
@@ -47,35 +47,6 @@ fn eight(s: &[u8], at: usize) -> u64
     ensures { λ r. ⌜ r ≡ bigEndian (now (s .entry)) at 8 ⌝ }
 {
     four(s, at) * 4294967296 + four(s, at + 4)
-}
-
-// A byte at a place as a plain number, as the lengths of connection IDs are held.
-pub fn byte(s: &[u8], at: usize) -> Number
-    ensures { λ r. ⌜ r ≡ plainAt (now (s .entry)) at 1 ⌝ }
-{
-    if at < s.len() {
-        return Number::Is {
-            value: wide(s[at]),
-            next: at + 1,
-        };
-    }
-    Number::CutShort
-}
-
-// Four bytes at a place as a plain number, as a version is held.
-pub fn word(s: &[u8], at: usize) -> Number
-    ensures { λ r. ⌜ r ≡ plainAt (now (s .entry)) at 4 ⌝ }
-{
-    if s.len() <= at {
-        return Number::CutShort;
-    }
-    if s.len() - at < 4 {
-        return Number::CutShort;
-    }
-    Number::Is {
-        value: four(s, at),
-        next: at + 4,
-    }
 }
 
 // Reads the number at a place.
@@ -181,6 +152,16 @@ fn put(out: &mut [u8], at: usize, v: u64) -> usize
     at + 8
 }
 
+// How many bytes an output of n has from a place on.
+fn room(n: usize, at: usize) -> usize
+    ensures { λ r. ⌜ r ≡ n - at ⌝ }
+{
+    if n < at {
+        return 0;
+    }
+    n - at
+}
+
 // Writes the shortest form of v at a place. A refusal leaves the output untouched, and so does acceptance outside of v's bytes.
 pub fn write(out: &mut [u8], at: usize, v: u64) -> Wrote
     ensures { λ r. ⌜ (r ≡ wroteOf (length (now (out .entry))) at v) × (now (out .exit) ≡ outOf (now (out .entry)) at v) ⌝ }
@@ -190,12 +171,7 @@ pub fn write(out: &mut [u8], at: usize, v: u64) -> Wrote
             answer: Answer::Unwritable,
         };
     }
-    if out.len() < at {
-        return Wrote::Refused {
-            answer: Answer::NoRoom,
-        };
-    }
-    if out.len() - at < size(v) {
+    if room(out.len(), at) < size(v) {
         return Wrote::Refused {
             answer: Answer::NoRoom,
         };

@@ -1,6 +1,7 @@
 -- `examples::print::bytes` is safe and ends: the place stays within the bytes, and what is left of them falls.
 -- Assumes nothing.
 use Prim.Native.Nat.{_≤_, _-_}
+use native.Mathlib.Omega.{arith}
 use lib.ListN.{length}
 use borrow.Author.Needs.{needs}
 use Rattle.examples.proofs.print.bytes.Statement.{statement}
@@ -22,10 +23,9 @@ bytes-spec =
     (λ c. search needs)
     (λ c κs. search needs)
     (λ c. search needs)
-    (λ c κs. search needs)
     (λ c. search needs)
+    (λ c. omega (arith, c .shared-slice-known3 .given (c .before .before .loop .at)))
     (λ c κs. search needs)
-    (λ c. search needs)
     (λ c. search needs)
     (λ c. search needs)
     (λ c. search needs)
