@@ -20,10 +20,10 @@ use Rattle.datagram.specs.declared.Part.{Part}
 use Rattle.datagram.specs.declared.Header.{Header}
 use Rattle.datagram.specs.declared.Next.{Next}
 use Rattle.datagram.specs.declared.Next.the-variants.{Packet, Stop}
-use Rattle.datagram.specs.Header.{bit, firstOf, partOf, after, headerOf, wholeOf}
+use Rattle.datagram.specs.Header.{bit, firstOf, typeOf, partOf, after, headerOf, wholeOf}
 use Rattle.datagram.specs.Inside.{numbered, Inside, Fine}
 use Rattle.datagram.specs.Inside.Fine.{packet, none}
-use Rattle.datagram.specs.Split.{bytesAfter, invariantOf, negotiationOf, retryOf, numberedOf, initialOf, typedOf, versionOneOf, longOf, shortOf, nextOf}
+use Rattle.datagram.specs.Split.{bytesAfter, invariantOf, negotiationOf, retryOf, numberedOf, initialOf, versionOneOf, longOf, shortOf, nextOf}
 use Rattle.datagram.proofs.Cases.{Ordered, counted, ordered, with-bytes, with-invariant}
 
 never : {A : Type 0} → _≡_ {A = Bool} false true → A
@@ -68,15 +68,15 @@ module _ (s : List ℕ) (d u : Part) (o : Ordered s d u) where
       numbered-fine Initial t (omega (arith, sound s (after u) (counted s _ e .count) .above)))
 
   version-one-fine : Fine s (versionOneOf s d u)
-  unfolding versionOneOf typedOf
+  unfolding versionOneOf
   version-one-fine =
       holds (Fine s) (not (bit 6 (firstOf s))) _ _ (λ e. none) (λ e.
       holds (Fine s) (ltb 20 (d .len)) _ _ (λ f. none) (λ f.
       holds (Fine s) (ltb 20 (u .len)) _ _ (λ g. none) (λ g.
-      holds (Fine s) (eqb (firstOf s / 16 % 4) 0) _ _ (λ h. initial-fine) (λ h.
-      holds (Fine s) (eqb (firstOf s / 16 % 4) 1) _ _ (λ i. numbered-fine ZeroRtt (partOf (after u) 0) (omega arith)) (λ i.
-      holds (Fine s) (eqb (firstOf s / 16 % 4) 2) _ _ (λ j. numbered-fine Handshake (partOf (after u) 0) (omega arith)) (λ j.
-      retry-fine))))))
+      holds (Fine s) (eqb (typeOf s) 0) _ _ (λ h. initial-fine) (λ h.
+      holds (Fine s) (eqb (typeOf s) 3) _ _ (λ i. retry-fine) (λ i.
+      holds (Fine s) (eqb (typeOf s) 1) _ _ (λ j. numbered-fine ZeroRtt (partOf (after u) 0) (omega arith)) (λ j.
+      numbered-fine Handshake (partOf (after u) 0) (omega arith)))))))
 
 module _ (s : List ℕ) where
   long-fine : Fine s (longOf s)

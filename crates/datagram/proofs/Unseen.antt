@@ -21,7 +21,7 @@ use Rattle.datagram.specs.declared.Invariant.the-variants as Invariant'
 use Rattle.datagram.specs.declared.Kind.{Kind}
 use Rattle.datagram.specs.declared.Kind.the-variants.{Initial, ZeroRtt, Handshake}
 use Rattle.datagram.specs.Header.{bit, firstOf, partOf, after}
-use Rattle.datagram.specs.Split.{bytesAfter, withBytes, invariantOf, withInvariant, negotiationOf, retryOf, numberedOf, initialOf, typedOf, versionOneOf, longOf, shortOf, nextOf}
+use Rattle.datagram.specs.Split.{bytesAfter, withBytes, invariantOf, withInvariant, negotiationOf, retryOf, numberedOf, initialOf, versionOneOf, longOf, shortOf, nextOf}
 use Rattle.datagram.specs.Unseen.{Alike}
 use Rattle.datagram.proofs.Cases.{counted, ordered, byte-first}
 
@@ -90,16 +90,12 @@ module _ (s t : List ℕ) (len : length s ≡ length t) (same : (i : ℕ) → 0 
       rw (number (after u) h, bytes) (go-bytes (bytesAfter t (numberAt t (after u))) _ (λ token e.
       numbered Initial d u token (omega (arith, sound t (after u) (counted t _ e .count) .above))))
 
-  typed : firstOf s / 16 ≡ firstOf t / 16 → (d u : Part) → 0 < after u → typedOf s d u ≡ typedOf t d u
-  unfolding typedOf
-  typed e d u h =
-      let n : 0 < after (partOf (after u) 0) = omega arith in
-      rw (e, initial d u h, numbered ZeroRtt d u (partOf (after u) 0) n, numbered Handshake d u (partOf (after u) 0) n, retry d u)
-
   module _ (a : Alike (firstOf s) (firstOf t)) where
     version-one : firstOf s / 16 ≡ firstOf t / 16 → (d u : Part) → 0 < after u → versionOneOf s d u ≡ versionOneOf t d u
     unfolding versionOneOf
-    version-one e d u h = rw (a .top, typed e d u h)
+    version-one e d u h =
+        let n : 0 < after (partOf (after u) 0) = omega arith in
+        rw (a .top, e, initial d u h, retry d u, numbered ZeroRtt d u (partOf (after u) 0) n, numbered Handshake d u (partOf (after u) 0) n)
 
     long : firstOf s / 16 ≡ firstOf t / 16 → longOf s ≡ longOf t
     unfolding longOf

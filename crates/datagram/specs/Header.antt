@@ -15,6 +15,10 @@ bit k b = eqb (b / 2 ^ k % 2) 1
 abbrev pub firstOf : List ℕ → ℕ
 firstOf s = getD s 0 0
 
+-- the type of a long header of version 1: bits 0x30 of its first byte
+abbrev pub typeOf : List ℕ → ℕ
+typeOf s = firstOf s / 16 % 4
+
 abbrev pub partOf : ℕ → ℕ → Part
 partOf at len = record { at = at; len = len }
 

@@ -17,7 +17,7 @@ use Rattle.datagram.specs.declared.Kind.{Kind}
 use Rattle.datagram.specs.declared.Kind.the-variants.{Initial, ZeroRtt, Handshake, Retry, OneRtt, VersionNegotiation, OtherVersion}
 use Rattle.datagram.specs.declared.Next.{Next}
 use Rattle.datagram.specs.declared.Next.the-variants.{Packet, Stop}
-use Rattle.datagram.specs.Header.{bit, firstOf, partOf, after, headerOf, wholeOf}
+use Rattle.datagram.specs.Header.{bit, firstOf, typeOf, partOf, after, headerOf, wholeOf}
 
 -- everything else is 110
 abbrev pub none : Next
@@ -72,21 +72,16 @@ initialOf s destination source =
     withBytes (bytesAfter s (numberAt s (after source))) none (λ token.
     numberedOf s Initial destination source token)
 
--- bits 0x30: 0 Initial, 1 0-RTT, 2 Handshake, 3 Retry
-unfoldable pub typedOf : List ℕ → Part → Part → Next
-typedOf s destination source =
-    eqb (firstOf s / 16 % 4) 0 ⇒ initialOf s destination source
-    ∣ eqb (firstOf s / 16 % 4) 1 ⇒ numberedOf s ZeroRtt destination source (partOf (after source) 0)
-    ∣ eqb (firstOf s / 16 % 4) 2 ⇒ numberedOf s Handshake destination source (partOf (after source) 0)
-    ∣ retryOf s destination source
-
--- version 1: bit 0x40 must be set and ID lengths are 0 to 20
+-- version 1: bit 0x40 must be set and ID lengths are 0 to 20; bits 0x30: 0 Initial, 1 0-RTT, 2 Handshake, 3 Retry
 unfoldable pub versionOneOf : List ℕ → Part → Part → Next
 versionOneOf s destination source =
     not (bit 6 (firstOf s)) ⇒ none
     ∣ ltb 20 (destination .len) ⇒ none
     ∣ ltb 20 (source .len) ⇒ none
-    ∣ typedOf s destination source
+    ∣ eqb (typeOf s) 0 ⇒ initialOf s destination source
+    ∣ eqb (typeOf s) 3 ⇒ retryOf s destination source
+    ∣ eqb (typeOf s) 1 ⇒ numberedOf s ZeroRtt destination source (partOf (after source) 0)
+    ∣ numberedOf s Handshake destination source (partOf (after source) 0)
 
 -- long: version 0, version 1, or another version, whose rest belongs to that packet
 unfoldable pub longOf : List ℕ → Next

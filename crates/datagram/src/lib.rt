@@ -4,7 +4,7 @@ ghost use Prim.Native.Nat.{_+_, _≤_, _<_};
 ghost use lib.ListN.{length, getD};
 ghost use Rattle.wire.specs.Number.{bigEndian, plainAt};
 ghost use Rattle.datagram.specs.Header.{wholeOf};
-ghost use Rattle.datagram.specs.Split.{bytesAfter, invariantOf, negotiationOf, retryOf, numberedOf, initialOf, typedOf, versionOneOf, longOf, shortOf, nextOf};
+ghost use Rattle.datagram.specs.Split.{bytesAfter, invariantOf, negotiationOf, retryOf, numberedOf, initialOf, versionOneOf, longOf, shortOf, nextOf};
 use answers::Answer;
 use wire::Number;
 
@@ -227,27 +227,6 @@ fn initial(rest: &[u8], destination: Part, source: Part) -> Next
 }
 
 // By the type of a long header of version 1. Its low four bits are protected and are not looked at.
-fn typed(rest: &[u8], first: u8, destination: Part, source: Part) -> Next
-    requires { ⌜ (first ≡ getD (now rest) 0 0) × (source .at + source .len ≤ length (now rest)) ⌝ }
-    ensures { λ r. ⌜ r ≡ typedOf (now (rest .entry)) destination source ⌝ }
-{
-    let none = Part {
-        at: source.at + source.len,
-        len: 0,
-    };
-    let form = first / 16 % 4;
-    if form == 0 {
-        return initial(rest, destination, source);
-    }
-    if form == 1 {
-        return numbered(rest, Kind::ZeroRtt, destination, source, none);
-    }
-    if form == 2 {
-        return numbered(rest, Kind::Handshake, destination, source, none);
-    }
-    retry(rest, destination, source)
-}
-
 fn version_one(rest: &[u8], first: u8, destination: Part, source: Part) -> Next
     requires { ⌜ (first ≡ getD (now rest) 0 0) × (source .at + source .len ≤ length (now rest)) ⌝ }
     ensures { λ r. ⌜ r ≡ versionOneOf (now (rest .entry)) destination source ⌝ }
@@ -267,7 +246,21 @@ fn version_one(rest: &[u8], first: u8, destination: Part, source: Part) -> Next
             answer: Answer::NoPacket,
         };
     }
-    typed(rest, first, destination, source)
+    let form = first / 16 % 4;
+    if form == 0 {
+        return initial(rest, destination, source);
+    }
+    if form == 3 {
+        return retry(rest, destination, source);
+    }
+    let none = Part {
+        at: source.at + source.len,
+        len: 0,
+    };
+    if form == 1 {
+        return numbered(rest, Kind::ZeroRtt, destination, source, none);
+    }
+    numbered(rest, Kind::Handshake, destination, source, none)
 }
 
 fn long(rest: &[u8], first: u8) -> Next

@@ -20,7 +20,27 @@ returns-3 c = rw (← c .before .before .before .before .before .before .pre .0,
 
 returns-4 : tie.Need-returns-4
 unfolding versionOneOf
-returns-4 c = rw (← c .before .before .before .before .before .before .before .pre .0, eq-eqb _ _ (c .before .before .before .before .before .if1 .left), le-ltb _ _ (c .before .before .before .if2 .left), le-ltb _ _ (c .before .if3 .left)) (c .typed .ensures)
+returns-4 c =
+    let p = c .before .before in
+    rw (← p .before .before .before .before .before .before .pre .0, eq-eqb _ _ (p .before .before .before .before .if1 .left), le-ltb _ _ (p .before .before .if2 .left), le-ltb _ _ (p .if3 .left), eq-eqb _ _ (c .before .if4 .taken)) (c .initial .ensures)
+
+returns-5 : tie.Need-returns-5
+unfolding versionOneOf
+returns-5 c =
+    let p = c .before .before .before in
+    rw (← p .before .before .before .before .before .before .pre .0, eq-eqb _ _ (p .before .before .before .before .if1 .left), le-ltb _ _ (p .before .before .if2 .left), le-ltb _ _ (p .if3 .left), ne-eqb _ _ (c .before .before .if4 .left), eq-eqb _ _ (c .before .if5 .taken)) (c .retry .ensures)
+
+returns-6 : tie.Need-returns-6
+unfolding versionOneOf
+returns-6 c =
+    let p = c .before .before .before .before .before in
+    rw (← p .before .before .before .before .before .before .pre .0, eq-eqb _ _ (p .before .before .before .before .if1 .left), le-ltb _ _ (p .before .before .if2 .left), le-ltb _ _ (p .if3 .left), ne-eqb _ _ (c .before .before .before .before .if4 .left), ne-eqb _ _ (c .before .before .before .if5 .left), eq-eqb _ _ (c .before .if6 .taken)) (c .numbered .ensures)
+
+returns-7 : tie.Need-returns-7
+unfolding versionOneOf
+returns-7 c =
+    let p = c .before .before .before .before .before in
+    rw (← p .before .before .before .before .before .before .pre .0, eq-eqb _ _ (p .before .before .before .before .if1 .left), le-ltb _ _ (p .before .before .if2 .left), le-ltb _ _ (p .if3 .left), ne-eqb _ _ (c .before .before .before .before .if4 .left), ne-eqb _ _ (c .before .before .before .if5 .left), ne-eqb _ _ (c .before .if6 .left)) (c .numbered2 .ensures)
 
 pub version-one-spec : {M : Type 1} → statement M
 version-one-spec =
@@ -30,4 +50,11 @@ version-one-spec =
     returns-2
     returns-3
     (λ c κs. search needs)
-    returns-4)
+    returns-4
+    (λ c κs. search needs)
+    returns-5
+    (λ c. search needs)
+    (λ c κs. search needs)
+    returns-6
+    (λ c κs. search needs)
+    returns-7)
