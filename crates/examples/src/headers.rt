@@ -28,13 +28,13 @@ fn header(s: &[u8], h: Header) {
     print::labelled(b" ", h.end as u64);
 }
 
-// The header of a datagram's first packet, or the answer where there is none, and what it should be.
-fn split(datagram: &[u8], should: &[u8]) {
+// What the header of a datagram's first packet should be, and what it is, or the answer where there is none.
+fn split(should: &[u8], datagram: &[u8]) {
+    print::text(should);
     match datagram::split(datagram) {
         Next::Packet { header: h } => header(datagram, h),
         Next::Stop { answer } => print::labelled(b"", answer.number()),
     }
-    print::text(should);
 }
 
 // Puts the first bytes of a packet into a datagram. What follows them there, the protected payload, stays zero.
@@ -54,8 +54,8 @@ pub fn initials() {
         b"\xc0\x00\x00\x00\x01\x08\x83\x94\xc8\xf0\x3e\x51\x57\x08\x00\x00\x44\x9e\x7b\x9a\xec\x34",
     );
     split(
+        b"\nshould be Initial 1 8394c8f03e515708 - - 18 1200, is ",
         &client,
-        b", should be Initial 1 8394c8f03e515708 - - 18 1200\n",
     );
     let mut server = [0u8; 135];
     begin(
@@ -63,19 +63,19 @@ pub fn initials() {
         b"\xcf\x00\x00\x00\x01\x00\x08\xf0\x67\xa5\x50\x2a\x42\x62\xb5\x00\x40\x75\xc0\xd9",
     );
     split(
+        b"\nshould be Initial 1 - f067a5502a4262b5 - 18 135, is ",
         &server,
-        b", should be Initial 1 - f067a5502a4262b5 - 18 135\n",
     );
 }
 
 // A.4, a Retry, and A.5, a short header with no connection ID: ours have 8 bytes, so to us its 21 bytes are no packet.
 pub fn others() {
     split(
+        b"\nshould be Retry 1 - f067a5502a4262b5 - 15 36, is ",
         b"\xff\x00\x00\x00\x01\x00\x08\xf0\x67\xa5\x50\x2a\x42\x62\xb5\x74\x6f\x6b\x65\x6e\x04\xa2\x65\xba\x2e\xff\x4d\x82\x90\x58\xfb\x3f\x0f\x24\x96\xba",
-        b", should be Retry 1 - f067a5502a4262b5 - 15 36\n",
     );
     split(
+        b"\nshould be 110, is ",
         b"\x4c\xfe\x41\x89\x65\x5e\x5c\xd5\x5c\x41\xf6\x90\x80\x57\x5d\x79\x99\xc2\x5a\x5b\xfb",
-        b", should be 110\n",
     );
 }

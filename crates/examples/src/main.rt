@@ -4,10 +4,11 @@ mod numbers;
 mod print;
 
 fn main() {
-    print::text(b"RFC 9000, A.1\n");
+    print::text(b"RFC 9000, A.1");
     numbers::reads();
     numbers::writes();
-    print::text(b"RFC 9001, A.2 to A.5\n");
+    print::text(b"\nRFC 9001, A.2 to A.5");
     headers::initials();
     headers::others();
+    print::text(b"\n");
 }

@@ -4,22 +4,20 @@ use wire::Number;
 use wire::Wrote;
 
 fn read(s: &[u8], should: u64) {
-    print::bytes(b"", s);
+    print::bytes(b"\n", s);
+    print::labelled(b" should read ", should);
     if let Number::Is { value, next: _ } = wire::read(s, 0) {
-        print::labelled(b" reads ", value);
+        print::labelled(b", reads ", value);
     }
-    print::labelled(b", should be ", should);
-    print::text(b"\n");
 }
 
 fn write(value: u64, should: &[u8]) {
     let mut out = [0u8; 8];
-    print::labelled(b"", value);
+    print::labelled(b"\n", value);
+    print::bytes(b" should be written ", should);
     if let Wrote::To { next } = wire::write(&mut out, 0, value) {
-        print::part(b" is written ", &out, 0, next);
+        print::part(b", is written ", &out, 0, next);
     }
-    print::bytes(b", should be ", should);
-    print::text(b"\n");
 }
 
 pub fn reads() {
