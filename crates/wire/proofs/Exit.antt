@@ -6,7 +6,7 @@ use mathlib.Core.List.{List, [], _∷_}
 use mathlib.Core.Logic.{_⊎_, inl, inr, ⊎-elim}
 use Prim.Native.Nat.{ℕ, suc, _+_, _-_, _*_, _^_, _≤_, _<_}
 use native.Mathlib.Omega.{arith}
-use borrow.Author.Tests.{ltb-false}
+use borrow.Author.Tests.{ltb-false, le-ltb}
 use lib.Dec.{ltb}
 use lib.ListN.{length, getD, set}
 use lib.Seq.{sets, length-sets, getD-set-other}
@@ -56,6 +56,11 @@ module _ (out : List ℕ) (at v : ℕ) where
       go false p true q e = let z : _≡_ {A = ℕ} 0 1 = cc in absurd (omega arith)
       go false p false q e =
           record { low = omega (arith, ltb-false (2 ^ 62 - 1) v p); ends = cc; room = ltb-false _ _ q; holds = simp (p, q) }
+
+  -- a value in range at a place with room is accepted
+  pub accepts : v < 2 ^ 62 → at + sizeOf v ≤ length out → wroteOf (length out) at v ≡ To (at + sizeOf v)
+  unfolding wroteOf
+  accepts h k = simp (le-ltb (2 ^ 62 - 1) v (omega arith), le-ltb _ _ k)
 
   pub same-length : length (outOf out at v) ≡ length out
   unfolding outOf

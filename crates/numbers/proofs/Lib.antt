@@ -1,0 +1,4 @@
+pub mod Nearest
+pub mod Lengths
+pub mod Laws
+pub mod Unique

@@ -1,0 +1,87 @@
+-- What is left of a row from a place on: the number there and the rest; and nothing at its end.
+-- Assumes nothing.
+use mathlib.Core.Path.{_≡_, refl, sym, _∙_}
+use mathlib.Core.Bool.{Bool, true, false, _&&_}
+use mathlib.Core.List.{List, [], _∷_, _++_}
+use Prim.Native.Nat.{ℕ, _+_, _-_, _^_, _≤_, _<_}
+use native.Mathlib.Numerals.{add-one}
+use native.Mathlib.Omega.{arith}
+use borrow.Author.Tests.{leb-true}
+use lib.Dec.{leb}
+use lib.ListN.{length, getD, drop}
+use lib.Seq.{sets, drop-cons, drop-length}
+use Rattle.answers.specs.declared.Answer.{Answer}
+use Rattle.wire.specs.Number.{bytesOf, sizeOf}
+use Rattle.wire.specs.Wrote.{wroteOf, outOf}
+use Rattle.wire.specs.declared.Wrote.the-variants.{To, Refused}
+use Rattle.wire.proofs.Standing.{sets-append}
+use Rattle.wire.proofs.Exit.{accepts, accepted, same-length, length-bytes}
+use Rattle.row.specs.Row.{inRange, sizeAll, bytesAll}
+
+module _ (vs : List ℕ) (i : ℕ) where
+  pub step : i < length vs → drop i vs ≡ getD vs i 0 ∷ drop (i + 1) vs
+  step h = rw (add-one, drop-cons vs i 0 h)
+
+  pub range-step : i < length vs → inRange (drop i vs) ≡ (leb (getD vs i 0) (2 ^ 62 - 1) && inRange (drop (i + 1) vs))
+  unfolding inRange
+  range-step h = rw (step h)
+
+  pub size-step : i < length vs → sizeAll (drop i vs) ≡ sizeOf (getD vs i 0) + sizeAll (drop (i + 1) vs)
+  unfolding sizeAll
+  size-step h = rw (step h)
+
+  pub bytes-step : i < length vs → bytesAll (drop i vs) ≡ bytesOf (getD vs i 0) ++ bytesAll (drop (i + 1) vs)
+  unfolding bytesAll
+  bytes-step h = rw (step h)
+
+  pub ended : i ≤ length vs → length vs ≤ i → drop i vs ≡ []
+  ended h k = let e : i ≡ length vs = omega arith in rw (e, drop-length)
+
+-- where a writer stands that has written i of the numbers, up to a place: what is left to write makes all of it, and there is room for it
+pub record Left (out₀ : List ℕ) (at : ℕ) (vs out : List ℕ) (place i : ℕ) : Type 0 where
+  pub within : i ≤ length vs
+  pub range : inRange (drop i vs) ≡ true
+  pub size : place + sizeAll (drop i vs) ≡ at + sizeAll vs
+  pub long : length out ≡ length out₀
+  pub room : at + sizeAll vs ≤ length out₀
+  pub rest : sets out place (bytesAll (drop i vs)) ≡ sets out₀ at (bytesAll vs)
+
+pub both : (a b : Bool) → (a && b) ≡ true → (a ≡ true) × (b ≡ true)
+both true b e = (refl, e)
+both false b e = let z : _≡_ {A = ℕ} 0 1 = cc in absurd (omega arith)
+
+module _ (out₀ : List ℕ) (at : ℕ) (vs out : List ℕ) (place i : ℕ) (l : Left out₀ at vs out place i) (h : i < length vs) where
+  -- the next number is in range and has room
+  in-range : (leb (getD vs i 0) (2 ^ 62 - 1) ≡ true) × (inRange (drop (i + 1) vs) ≡ true)
+  in-range = both (leb (getD vs i 0) (2 ^ 62 - 1)) (inRange (drop (i + 1) vs)) (sym (range-step vs i h) ∙ l .range)
+
+  low : getD vs i 0 < 2 ^ 62
+  low = omega (arith, leb-true (getD vs i 0) (2 ^ 62 - 1) (in-range .0))
+
+  fits : place + sizeOf (getD vs i 0) ≤ length out
+  fits = omega (arith, size-step vs i h, l .size, l .long, l .room)
+
+  pub unrefused : {a : Answer} → wroteOf (length out) place (getD vs i 0) ≡ Refused a → ⊥
+  unrefused e =
+      let p = accepts out place (getD vs i 0) low fits in
+      let z : _≡_ {A = ℕ} 0 1 = cc in omega arith
+
+  -- one number more
+  pub turn : {next : ℕ} → wroteOf (length out) place (getD vs i 0) ≡ To next → Left out₀ at vs (outOf out place (getD vs i 0)) next (i + 1)
+  turn e =
+      let a = accepted out place (getD vs i 0) e in
+      record {
+        within = omega arith;
+        range = in-range .1;
+        size = omega (arith, a .ends, size-step vs i h, l .size);
+        long = same-length out place (getD vs i 0) ∙ l .long;
+        room = l .room;
+        rest = rw (a .holds, a .ends, ← length-bytes (getD vs i 0)) (sym (sets-append out place (bytesOf (getD vs i 0)) (bytesAll (drop (i + 1) vs))) ∙ rw (← bytes-step vs i h) (l .rest));
+      }
+
+-- all numbers are written
+pub finished : (out₀ : List ℕ) (at : ℕ) (vs out : List ℕ) (place i : ℕ) → Left out₀ at vs out place i → length vs ≤ i → (place ≡ at + sizeAll vs) × (out ≡ sets out₀ at (bytesAll vs))
+unfolding sizeAll bytesAll
+finished out₀ at vs out place i l h =
+    let e = ended vs i (l .within) h in
+    (omega (arith, rw e at (l .size)), rw e at (l .rest))

@@ -1,0 +1,62 @@
+-- `row::put` meets its contract: writing those from the place on is writing all, and each turn writes one, for which there is room.
+-- Assumes nothing.
+use mathlib.Core.Path.{_≡_, refl, sym, _∙_}
+use mathlib.Core.Bool.{true}
+use Prim.Native.Nat.{ℕ, _≤_, _-_, _+_}
+use native.Mathlib.Omega.{arith}
+use borrow.Author.Needs.{needs}
+use lib.ListN.{length, getD, drop}
+use lib.Seq.{sets}
+use denote.Ref.{now}
+use Rattle.row.specs.Row.{inRange, sizeAll, bytesAll}
+use Rattle.row.proofs.Steps.{Left, turn, finished, unrefused}
+use Rattle.row.proofs.put.Statement.{statement}
+use Rattle.row.proofs.put.Tie as tie
+
+abbrev Inv-loop : tie.InvT-loop
+Inv-loop out₀ at numbers place₀ i₀ out place i = Left out₀ at numbers out place i
+
+abbrev μ-loop : tie.MeasureT-loop
+μ-loop out₀ at numbers place₀ i₀ out place i = length numbers - i
+
+loop-holds : tie.Need-loop-holds Inv-loop μ-loop
+loop-holds c =
+    let s = c .before .before in
+    record { within = search needs; range = s .pre .0; size = refl; long = refl; room = s .pre .1; rest = refl }
+
+same-length : tie.Need-same-length Inv-loop μ-loop
+same-length c = absurd (unrefused _ _ _ _ _ _ (c .before .before .before .before .before .before .before .before .loop .inv) (c .before .before .before .before .before .before .before .loop-test .taken) (sym (c .before .before .before .before .write .ensures .0) ∙ c .enum-told .given .1))
+
+returns : tie.Need-returns Inv-loop μ-loop
+returns c = absurd (unrefused _ _ _ _ _ _ (c .before .before .before .before .before .before .before .before .loop .inv) (c .before .before .before .before .before .before .before .loop-test .taken) (sym (c .before .before .before .before .write .ensures .0) ∙ c .enum-told .given .1))
+
+loop-again : tie.Need-loop-again Inv-loop μ-loop
+loop-again c =
+    rw (c .before .before .before .before .before .write .ensures .1)
+    (turn _ _ _ _ _ _ (c .before .before .before .before .before .before .before .before .before .loop .inv) (c .before .before .before .before .before .before .before .before .loop-test .taken) (sym (c .before .before .before .before .before .write .ensures .0) ∙ c .before .next .given .1))
+
+same-length-2 : tie.Need-same-length-2 Inv-loop μ-loop
+same-length-2 c = c .before .loop .inv .long
+
+returns-2 : tie.Need-returns-2 Inv-loop μ-loop
+returns-2 c = finished _ _ _ _ _ _ (c .before .loop .inv) (c .loop-test .left)
+
+pub put-spec : {M : Type 1} → statement M
+put-spec =
+    tie.close
+    (tie.spec
+    Inv-loop
+    μ-loop
+    loop-holds
+    (λ c. search needs)
+    (λ c. search needs)
+    (λ c κs. search needs)
+    (λ c. search needs)
+    (λ c. search needs)
+    same-length
+    returns
+    (λ c. search needs)
+    (λ c. search needs)
+    loop-again
+    same-length-2
+    returns-2)

@@ -1,0 +1,77 @@
+// Numbers on the wire in a row: written one after the other in shortest form, all of them or none.
+ghost use mathlib.Core.Path.{_≡_};
+ghost use mathlib.Core.Bool.{true};
+ghost use Prim.Native.Nat.{_+_, _≤_};
+ghost use lib.ListN.{length};
+ghost use lib.Seq.{sets};
+ghost use Rattle.row.specs.Row.{inRange, sizeAll, bytesAll, wroteRowOf, outRowOf};
+use answers::Answer;
+use wire::Wrote;
+
+// Whether none is above 2^62-1.
+fn in_range(numbers: &[u64]) -> bool
+    ensures { λ r. ⌜ r ≡ inRange (now (numbers .entry)) ⌝ }
+{
+    let mut i = 0;
+    while i < numbers.len() {
+        if wire::MOST < numbers[i] {
+            return false;
+        }
+        i += 1;
+    }
+    true
+}
+
+// How many bytes their shortest forms have together.
+fn size(numbers: &[u64]) -> usize
+    ensures { λ r. ⌜ r ≡ sizeAll (now (numbers .entry)) ⌝ }
+{
+    let mut total: usize = 0;
+    let mut i = 0;
+    while i < numbers.len() {
+        total += wire::size(numbers[i]);
+        i += 1;
+    }
+    total
+}
+
+// Writes them at a place with room for all.
+fn put(out: &mut [u8], at: usize, numbers: &[u64]) -> usize
+    requires { ⌜ (inRange (now numbers) ≡ true) × (at + sizeAll (now numbers) ≤ length (now out)) ⌝ }
+    ensures { λ r. ⌜ (r ≡ at + sizeAll (now (numbers .entry))) × (now (out .exit) ≡ sets (now (out .entry)) at (bytesAll (now (numbers .entry)))) ⌝ }
+{
+    let mut place = at;
+    let mut i = 0;
+    while i < numbers.len() {
+        let Wrote::To { next } = wire::write(out, place, numbers[i]) else {
+            return place;
+        };
+        place = next;
+        i += 1;
+    }
+    place
+}
+
+// Writes the shortest forms of all the numbers from a place on. A refusal leaves the output untouched.
+pub fn write(out: &mut [u8], at: usize, numbers: &[u64]) -> Wrote
+    ensures { λ r. ⌜ (r ≡ wroteRowOf (length (now (out .entry))) at (now (numbers .entry))) × (now (out .exit) ≡ outRowOf (now (out .entry)) at (now (numbers .entry))) ⌝ }
+{
+    if !in_range(numbers) {
+        return Wrote::Refused {
+            answer: Answer::Unwritable,
+        };
+    }
+    if out.len() < at {
+        return Wrote::Refused {
+            answer: Answer::NoRoom,
+        };
+    }
+    if out.len() - at < size(numbers) {
+        return Wrote::Refused {
+            answer: Answer::NoRoom,
+        };
+    }
+    Wrote::To {
+        next: put(out, at, numbers),
+    }
+}
