@@ -1,9 +1,10 @@
 -- A row that was written reads back, number after number: where it stands, its first number is read and the rest stands behind it.
 -- Assumes nothing.
-use mathlib.Core.Path.{_≡_, refl, sym, _∙_}
+use mathlib.Core.Path.{_≡_, refl, sym, subst}
 use mathlib.Core.Bool.{Bool, true, false, not}
 use mathlib.Core.List.{List, [], _∷_, _++_}
 use Prim.Native.Nat.{ℕ, _+_, _-_, _^_, _≤_, _<_}
+use native.Mathlib.Nat.{add-zero, add-assoc}
 use native.Mathlib.Omega.{arith}
 use borrow.Author.Tests.{leb-true, ltb-false}
 use lib.Dec.{ltb, leb}
@@ -18,7 +19,7 @@ use Rattle.wire.specs.declared.Wrote.the-variants.{To, Refused}
 use Rattle.wire.proofs.Standing.{left, right, stored}
 use Rattle.wire.proofs.Back.{back}
 use Rattle.wire.proofs.Exit.{length-bytes}
-use Rattle.row.specs.Row.{inRange, sizeAll, bytesAll, wroteRowOf, outRowOf, RowWritten}
+use Rattle.row.specs.Row.{inRange, sizeAll, bytesAll, wroteRowOf, outRowOf, RowWritten, ReadAs}
 use Rattle.row.proofs.Steps.{both}
 
 pub length-all : (vs : List ℕ) → length (bytesAll vs) ≡ sizeAll vs
@@ -36,6 +37,14 @@ peel s at v vs r st =
       b .1,
       rw (length-bytes v) at (right (bytesOf v) (bytesAll vs) st),
     )
+
+-- where a row stands it is read, number after number
+pub reads : (s : List ℕ) (vs : List ℕ) (at : ℕ) → inRange vs ≡ true → Stands s at (bytesAll vs) → ReadAs s at vs (at + sizeAll vs)
+unfolding sizeAll
+reads s [] at r st = sym (add-zero at)
+reads s (v ∷ vs) at r st =
+    let p = peel s at v vs r st in
+    (at + sizeOf v, p .0, subst (ReadAs s (at + sizeOf v) vs) (add-assoc at (sizeOf v) (sizeAll vs)) (reads s vs (at + sizeOf v) (p .1) (p .2)))
 
 module _ (out : List ℕ) (at : ℕ) (vs : List ℕ) where
   -- a refusal leaves the output untouched
@@ -59,3 +68,9 @@ module _ (out : List ℕ) (at : ℕ) (vs : List ℕ) where
       go true p false q e =
           let h : outRowOf out at vs ≡ sets out at (bytesAll vs) = simp (p, q) in
           record { range = p; ends = cc; holds = h; stands = rw h (stored out at (bytesAll vs) (rw (length-all vs) (ltb-false _ _ q))) }
+
+  -- what is written reads back as the same numbers, up to the place that was answered
+  pub written : {n : ℕ} → wroteRowOf (length out) at vs ≡ To n → ReadAs (outRowOf out at vs) at vs n
+  written {n} e =
+      let a = accepted e in
+      subst (ReadAs (outRowOf out at vs) at vs) (sym (a .ends)) (reads (outRowOf out at vs) vs at (a .range) (a .stands))

@@ -8,7 +8,8 @@ use lib.Seq.{sets}
 use lib.Dec.{ltb, leb}
 use Rattle.answers.specs.Choice.{_⇒_∣_}
 use Rattle.answers.specs.declared.Answer.the-variants.{NoRoom, Unwritable}
-use Rattle.wire.specs.Number.{bytesOf, sizeOf, Stands}
+use Rattle.wire.specs.Number.{numberAt, bytesOf, sizeOf, Stands}
+use Rattle.wire.specs.declared.Number.the-variants.{Is}
 use Rattle.wire.specs.declared.Wrote.{Wrote}
 use Rattle.wire.specs.declared.Wrote.the-variants.{To, Refused}
 
@@ -47,3 +48,8 @@ pub record RowWritten (out : List ℕ) (at : ℕ) (vs : List ℕ) (n : ℕ) : Ty
   pub ends : n ≡ at + sizeAll vs
   pub holds : outRowOf out at vs ≡ sets out at (bytesAll vs)
   pub stands : Stands (outRowOf out at vs) at (bytesAll vs)
+
+-- the numbers of a list are read one after the other from a place on, up to n
+abbrev pub ReadAs : List ℕ → ℕ → List ℕ → ℕ → Type 0
+ReadAs s at [] n = at ≡ n
+ReadAs s at (v ∷ vs) n = (next : ℕ) × (numberAt s at ≡ Is v next) × ReadAs s next vs n

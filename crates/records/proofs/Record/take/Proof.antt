@@ -1,0 +1,64 @@
+-- `records::Record::take` meets its contract: the tests are those of the definition, and what `mark` leaves can be and holds the same numbers as the definition's record, so it is that one.
+-- Assumes nothing.
+use borrow.Author.Needs.{needs}
+use mathlib.Core.Path.{_≡_, sym, _∙_}
+use native.Mathlib.Omega.{arith}
+use Prim.Native.Nat.{_^_, _<_}
+use mir.Val.{Fits}
+use mir.Syntax.{w64}
+use lib.ListN.{getD}
+use Rattle.answers.specs.declared.Answer.the-variants.{Accepted}
+use Rattle.answers.proofs.Numbers.{other}
+use Rattle.records.specs.Marks.{checkOf, testOf, Words}
+use Rattle.records.specs.Ring.{withMark}
+use Rattle.records.proofs.Sound.{sound-facts}
+use Rattle.records.proofs.Same.{marked-one}
+use Rattle.records.proofs.Window.{with-words, with-marked}
+use Rattle.records.proofs.Taking.{can-be, within, take-unfit, take-large, take-known, take-new}
+use Rattle.records.proofs.Record.take.Statement.{statement}
+use Rattle.records.proofs.Record.take.Tie as tie
+
+returns : tie.Need-returns
+returns c = take-unfit _ _ (λ e. other (rw (c .before .check .ensures ∙ e) at (c .match .keys2)))
+
+returns-2 : tie.Need-returns-2
+returns-2 c =
+    let a = c .before .before .before .before .args in
+    take-large (a .self) (a .n) (sym (c .before .before .before .check .ensures) ∙ c .before .enum-told .given .1) (omega arith)
+
+returns-3 : tie.Need-returns-3
+returns-3 c =
+    let start = c .before .before .before .before .before in
+    let a = start .before .args in
+    rw (c .before .test .ensures)
+    (take-known (a .self) (a .n) (sym (start .check .ensures) ∙ c .before .before .before .enum-told .given .1) (omega arith) (λ e. other (rw (c .before .test .ensures ∙ e) at (c .match2 .keys2))))
+
+mark-requires : tie.Need-mark-requires
+mark-requires c κs =
+    let a = c .before .before .before .before .before .before .before .args in
+    (omega arith, within (a .self) (a .n) (sym (c .before .before .test .ensures) ∙ c .enum-told2 .given .1))
+
+returns-4 : tie.Need-returns-4
+returns-4 c =
+    let start = c .before .before .before .before .before .before .before in
+    let a = start .before .args in
+    let fit : checkOf (a .self) ≡ Accepted = sym (start .check .ensures) ∙ c .before .before .before .before .before .enum-told .given .1 in
+    let fresh : testOf (a .self) (a .n) ≡ Accepted = sym (c .before .before .before .test .ensures) ∙ c .before .enum-told2 .given .1 in
+    let words : Words (c .mark .result) = record { long = search needs; small = λ k. let f : Fits w64 (getD (c .mark .result .words) k 0) = search needs in f .fits } in
+    let low : a .n < 2 ^ 62 = omega arith in
+    let same : c .mark .result ≡ withMark (a .self) (a .n) = marked-one _ _ _ _ (sound-facts _ (can-be _ fit)) words (with-words _ _ low) (c .mark .ensures) (with-marked _ _ low) in
+    rw (c .before .enum-told2 .given .1, same) (take-new (a .self) (a .n) fit (omega arith) fresh)
+
+pub take-spec : {M : Type 1} → statement M
+take-spec =
+    tie.close
+    (tie.spec
+    (λ c κs. search needs)
+    (λ c. search needs)
+    returns
+    returns-2
+    (λ c κs. search needs)
+    (λ c. search needs)
+    returns-3
+    mark-requires
+    returns-4)

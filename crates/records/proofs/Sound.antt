@@ -1,0 +1,101 @@
+-- A record that can be: the code's test of its words, and the two ways of saying it, as a test and as facts.
+-- Assumes nothing.
+use Prim.Native.Nat.{ℕ, zero, suc, _+_, _-_, _*_, _/_, _%_, _^_, _≤_, _<_}
+use mathlib.Core.Path.{_≡_, refl, sym, _∙_, ap}
+use mathlib.Core.Bool.{Bool, true, false, _&&_, _||_}
+use mathlib.Core.List.{List}
+use native.Mathlib.Omega.{arith}
+use native.Mathlib.Decide.{decLe, ℕ-discrete}
+use native.Mathlib.Nat.{lt-of-le-of-lt, div-le-self}
+use lib.ListN.{getD}
+use lib.Dec.{leb, eqb}
+use borrow.Author.Tests.{le-leb, leb-true, eq-eqb, ne-eqb, eqb-true}
+use Rattle.answers.proofs.Choice.{holds}
+use Rattle.answers.specs.declared.Answer.{Answer}
+use Rattle.answers.specs.declared.Answer.the-variants.{Accepted, DoesNotFit}
+use Rattle.records.specs.declared.Record.{Record}
+use Rattle.records.specs.Marks.{bit, bitAt, recorded, unmarked, soundOf, checkOf, Sound}
+use Rattle.records.proofs.Bits.{bit-shift, bit-zero, bit-past, some-bit}
+use Rattle.records.proofs.Ring.{rec-in}
+
+pub different : true ≡ false → ⊥
+different e = let z : _≡_ {A = ℕ} 0 1 = cc in omega arith
+
+-- no bit of the word of `at` from its place on
+pub clean-word : (ws : List ℕ) (at : ℕ) → getD ws (at / 64) 0 / 2 ^ (at % 64) ≡ 0 → (m : ℕ) → at ≤ m → m < 8192 → m < at + (64 - at % 64) → bitAt ws m ≡ 0
+unfolding bitAt
+clean-word ws at z m a b d =
+    let e : m / 64 % 128 ≡ at / 64 = omega arith in
+    let f : at % 64 + (m % 64 - at % 64) ≡ m % 64 = omega arith in
+    ap (λ (x : ℕ). bit (getD ws x 0) (m % 64)) e ∙ ap (bit (getD ws (at / 64) 0)) (sym f) ∙ bit-shift (getD ws (at / 64) 0) (at % 64) (m % 64 - at % 64)
+    ∙ ap (λ (x : ℕ). bit x (m % 64 - at % 64)) z ∙ bit-zero (m % 64 - at % 64)
+
+-- some bit there is set
+pub marked-word : (ws : List ℕ) (at : ℕ) → at < 8192 → getD ws (at / 64) 0 < 2 ^ 64 → (getD ws (at / 64) 0 / 2 ^ (at % 64) ≡ 0 → ⊥) → (m : ℕ) × (at ≤ m) × (m < 8192) × (bitAt ws m ≡ 1)
+unfolding bitAt
+marked-word ws at l h f =
+    let t = some-bit (getD ws (at / 64) 0 / 2 ^ (at % 64)) (lt-of-le-of-lt (div-le-self (getD ws (at / 64) 0) (2 ^ (at % 64))) h) (omega arith) in
+    let one : bit (getD ws (at / 64) 0) (at % 64 + t .0) ≡ 1 = bit-shift (getD ws (at / 64) 0) (at % 64) (t .0) ∙ t .1 in
+    let s : at % 64 + t .0 < 64 = room (at % 64 + t .0) one (decLe 64 (at % 64 + t .0)) in
+    let e : (at / 64 * 64 + (at % 64 + t .0)) / 64 % 128 ≡ at / 64 = omega arith in
+    let g : (at / 64 * 64 + (at % 64 + t .0)) % 64 ≡ at % 64 + t .0 = omega arith in
+    (at / 64 * 64 + (at % 64 + t .0), omega arith, omega arith, ap (λ (x : ℕ). bit (getD ws x 0) ((at / 64 * 64 + (at % 64 + t .0)) % 64)) e ∙ ap (bit (getD ws (at / 64) 0)) g ∙ one)
+  where
+    room : (i : ℕ) → bit (getD ws (at / 64) 0) i ≡ 1 → Dec (64 ≤ i) → i < 64
+    room i e (yes p) = absurd (omega (arith, e, bit-past (getD ws (at / 64) 0) 64 i h p))
+    room i e (no p) = omega arith
+
+-- tests of two parts
+both : (a b : Bool) → (a && b) ≡ true → (a ≡ true) × (b ≡ true)
+both true b e = (refl, e)
+both false b e = absurd (different (sym e))
+
+either : (a b : Bool) → (a || b) ≡ true → a ≡ false → b ≡ true
+either true b e f = absurd (different f)
+either false b e f = e
+
+module _ (ws : List ℕ) where
+  unmarked-facts : (p k : ℕ) → unmarked ws p k ≡ true → (m : ℕ) → p ≤ m → m < p + k → bitAt ws m ≡ 0
+  unfolding unmarked
+  unmarked-facts p zero e m a b = absurd (omega arith)
+  unmarked-facts p (suc k) e m a b =
+      let f = both (eqb (bitAt ws p) 0) (unmarked ws (suc p) k) e in
+      go (eqb-true _ 0 (f .0)) (ℕ-discrete m p) (λ l. unmarked-facts (suc p) k (f .1) m l (omega arith))
+    where
+      go : bitAt ws p ≡ 0 → Dec (m ≡ p) → (suc p ≤ m → bitAt ws m ≡ 0) → bitAt ws m ≡ 0
+      go z (yes f) more = ap (bitAt ws) f ∙ z
+      go z (no f) more = more (omega arith)
+
+  unmarked-test : (p k : ℕ) → ((m : ℕ) → p ≤ m → m < p + k → bitAt ws m ≡ 0) → unmarked ws p k ≡ true
+  unfolding unmarked
+  unmarked-test p zero f = refl
+  unmarked-test p (suc k) f = simp (eq-eqb _ 0 (f p (omega arith) (omega arith)), unmarked-test (suc p) k (λ m a b. f m (omega arith) (omega arith)))
+
+-- the test and the facts
+module _ (R : Record) where
+  pub sound-facts : soundOf R ≡ true → Sound R
+  unfolding soundOf
+  sound-facts e =
+      let s = both (unmarked (R .words) (R .top) (8192 - R .top)) ((eqb (R .top) 0 || recorded R (R .top - 1)) && leb (R .top) (2 ^ 62)) e in
+      let t = both (eqb (R .top) 0 || recorded R (R .top - 1)) (leb (R .top) (2 ^ 62)) (s .1) in
+      record {
+        clean = λ m a b. unmarked-facts (R .words) (R .top) (8192 - R .top) (s .0) m a (omega arith);
+        last = λ p. eqb-true _ 1 (sym (rec-in R (R .top - 1) (omega arith) (omega arith)) ∙ either (eqb (R .top) 0) _ (t .0) (ne-eqb (R .top) 0 (omega arith)));
+        small = leb-true _ _ (t .1);
+      }
+
+  pub sound-test : Sound R → soundOf R ≡ true
+  unfolding soundOf
+  sound-test s = simp (unmarked-test (R .words) (R .top) (8192 - R .top) (λ m a b. s .clean m a (omega arith)), last (ℕ-discrete (R .top) 0), le-leb _ _ (s .small))
+    where
+      last : Dec (R .top ≡ 0) → (eqb (R .top) 0 || recorded R (R .top - 1)) ≡ true
+      last (yes e) = simp (eq-eqb _ 0 e)
+      last (no f) = simp (ne-eqb _ 0 f, rec-in R (R .top - 1) (omega arith) (omega arith), eq-eqb _ 1 (s .last (omega arith)))
+
+  pub fits : Sound R → Accepted ≡ checkOf R
+  unfolding checkOf
+  fits s = simp (sound-test s)
+
+  pub unfit : (Sound R → ⊥) → DoesNotFit ≡ checkOf R
+  unfolding checkOf
+  unfit f = holds (λ (a : Answer). DoesNotFit ≡ a) (soundOf R) Accepted DoesNotFit (λ e. absurd (f (sound-facts e))) (λ e. refl)

@@ -1,0 +1,29 @@
+-- The contracts of `new`, `check`, `test`, `take` and `next_run` are firm: each is an equation of the answer, and `take`'s of the record too.
+-- Assumes nothing.
+use mathlib.Core.Path.{sym, _∙_}
+use Rattle.answers.specs.Firm.{FirmAnswer}
+use Rattle.records.proofs.Record.new.Kinds as new
+use Rattle.records.proofs.Record.new.Reads as making
+use Rattle.records.proofs.Record.check.Kinds as check
+use Rattle.records.proofs.Record.check.Reads as checking
+use Rattle.records.proofs.Record.test.Kinds as test
+use Rattle.records.proofs.Record.test.Reads as testing
+use Rattle.records.proofs.Record.take.Kinds as take
+use Rattle.records.proofs.Record.take.Reads as taking
+use Rattle.records.proofs.Record.next_run.Kinds as next-run
+use Rattle.records.proofs.Record.next_run.Reads as searching
+
+pub new-firm : FirmAnswer 0 new.ps new.r making.Asked making.Post
+new-firm = record { asks-nothing = λ κs a. tt; one-outcome = λ κs a x y s t p q. p ∙ sym q }
+
+pub check-firm : FirmAnswer 0 check.ps check.r checking.Asked checking.Post
+check-firm = record { asks-nothing = λ κs a. tt; one-outcome = λ κs a x y s t p q. p ∙ sym q }
+
+pub test-firm : FirmAnswer 0 test.ps test.r testing.Asked testing.Post
+test-firm = record { asks-nothing = λ κs a. tt; one-outcome = λ κs a x y s t p q. p ∙ sym q }
+
+pub take-firm : FirmAnswer 0 take.ps take.r taking.Asked taking.Post
+take-firm = record { asks-nothing = λ κs a. tt; one-outcome = λ κs a x y s t p q. p ∙ sym q }
+
+pub next-run-firm : FirmAnswer 0 next-run.ps next-run.r searching.Asked searching.Post
+next-run-firm = record { asks-nothing = λ κs a. tt; one-outcome = λ κs a x y s t p q. p ∙ sym q }
