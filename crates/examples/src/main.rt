@@ -1,14 +1,19 @@
 // The worked examples of RFC 9000 and RFC 9001, run, each beside what the standard says.
 mod headers;
-mod numbers;
+mod marks;
+mod on_wire;
+mod packets;
 mod print;
 
 fn main() {
     print::text(b"RFC 9000, A.1");
-    numbers::reads();
-    numbers::writes();
+    on_wire::reads();
+    on_wire::writes();
     print::text(b"\nRFC 9001, A.2 to A.5");
     headers::initials();
     headers::others();
+    packets::run();
+    marks::jumps();
+    marks::acknowledgements();
     print::text(b"\n");
 }
