@@ -7,13 +7,13 @@ use mathlib.Core.List.{List}
 use mathlib.Core.Logic.{_⊎_, ⊎-elim}
 use native.Mathlib.Omega.{arith}
 use native.Mathlib.Decide.{decLe, ℕ-discrete}
-use lib.ListN.{length, getD, set}
+use lib.ListN.{length, getD, set, length-set}
 use lib.Seq.{getD-set-same, getD-set-other}
 use lib.Dec.{leb, eqb}
 use borrow.Author.Tests.{lt-ltb, le-ltb, le-leb, lt-leb, eq-eqb, ne-eqb}
 use Rattle.records.specs.declared.Record.{Record}
 use Rattle.records.specs.Marks.{bit, bitAt, recorded, Sound}
-use Rattle.records.specs.Parts.{Kept, Put, Cleared, Slid, Marked}
+use Rattle.records.specs.Parts.{Whole, Kept, Put, Cleared, Slid, Marked}
 use Rattle.records.proofs.Bits.{bit-lt}
 
 -- a bit is 0 or 1
@@ -35,6 +35,14 @@ module _ (vs : List ℕ) (k r m : ℕ) where
   other-word : (m / 64 % 128 ≡ k → ⊥) → bitAt (set vs k r) m ≡ bitAt vs m
   unfolding bitAt
   other-word f = ap (λ (x : ℕ). bit x (m % 64)) (getD-set-other vs k (m / 64 % 128) r 0 f)
+
+-- a store of a word of 64 bits
+pub whole-set : (vs : List ℕ) (k r : ℕ) → k < 128 → r < 2 ^ 64 → Whole vs → Whole (set vs k r)
+whole-set vs k r h l w = record { long = simp length-set (w .long); small = λ j. go j (ℕ-discrete j k) }
+  where
+    go : (j : ℕ) → Dec (j ≡ k) → getD (set vs k r) j 0 < 2 ^ 64
+    go j (yes e) = rw (e, getD-set-same vs k r 0 (omega (arith, w .long))) l
+    go j (no f) = rw (getD-set-other vs k j r 0 f) (w .small j)
 
 -- the same bit of the ring
 pub same-place : (vs : List ℕ) (m n : ℕ) → m / 64 % 128 ≡ n / 64 % 128 → m % 64 ≡ n % 64 → bitAt vs m ≡ bitAt vs n

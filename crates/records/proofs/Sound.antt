@@ -15,35 +15,44 @@ use Rattle.answers.specs.declared.Answer.{Answer}
 use Rattle.answers.specs.declared.Answer.the-variants.{Accepted, DoesNotFit}
 use Rattle.records.specs.declared.Record.{Record}
 use Rattle.records.specs.Marks.{bit, bitAt, recorded, unmarked, soundOf, checkOf, Sound}
+use Rattle.records.specs.Parts.{Blank}
 use Rattle.records.proofs.Bits.{bit-shift, bit-zero, bit-past, some-bit}
 use Rattle.records.proofs.Ring.{rec-in}
 
 pub different : true ≡ false → ⊥
 different e = let z : _≡_ {A = ℕ} 0 1 = cc in omega arith
 
--- no bit of the word of `at` from its place on
-pub clean-word : (ws : List ℕ) (at : ℕ) → getD ws (at / 64) 0 / 2 ^ (at % 64) ≡ 0 → (m : ℕ) → at ≤ m → m < 8192 → m < at + (64 - at % 64) → bitAt ws m ≡ 0
-unfolding bitAt
-clean-word ws at z m a b d =
-    let e : m / 64 % 128 ≡ at / 64 = omega arith in
-    let f : at % 64 + (m % 64 - at % 64) ≡ m % 64 = omega arith in
-    ap (λ (x : ℕ). bit (getD ws x 0) (m % 64)) e ∙ ap (bit (getD ws (at / 64) 0)) (sym f) ∙ bit-shift (getD ws (at / 64) 0) (at % 64) (m % 64 - at % 64)
-    ∙ ap (λ (x : ℕ). bit x (m % 64 - at % 64)) z ∙ bit-zero (m % 64 - at % 64)
+-- a word with no bit from s on, as the shift finds it
+pub blank-word : (w s : ℕ) → w / 2 ^ s ≡ 0 → Blank w s
+blank-word w s z i a b =
+    let f : s + (i - s) ≡ i = omega arith in
+    ap (bit w) (sym f) ∙ bit-shift w s (i - s) ∙ ap (λ (x : ℕ). bit x (i - s)) z ∙ bit-zero (i - s)
 
--- some bit there is set
-pub marked-word : (ws : List ℕ) (at : ℕ) → at < 8192 → getD ws (at / 64) 0 < 2 ^ 64 → (getD ws (at / 64) 0 / 2 ^ (at % 64) ≡ 0 → ⊥) → (m : ℕ) × (at ≤ m) × (m < 8192) × (bitAt ws m ≡ 1)
-unfolding bitAt
-marked-word ws at l h f =
-    let t = some-bit (getD ws (at / 64) 0 / 2 ^ (at % 64)) (lt-of-le-of-lt (div-le-self (getD ws (at / 64) 0) (2 ^ (at % 64))) h) (omega arith) in
-    let one : bit (getD ws (at / 64) 0) (at % 64 + t .0) ≡ 1 = bit-shift (getD ws (at / 64) 0) (at % 64) (t .0) ∙ t .1 in
-    let s : at % 64 + t .0 < 64 = room (at % 64 + t .0) one (decLe 64 (at % 64 + t .0)) in
-    let e : (at / 64 * 64 + (at % 64 + t .0)) / 64 % 128 ≡ at / 64 = omega arith in
-    let g : (at / 64 * 64 + (at % 64 + t .0)) % 64 ≡ at % 64 + t .0 = omega arith in
-    (at / 64 * 64 + (at % 64 + t .0), omega arith, omega arith, ap (λ (x : ℕ). bit (getD ws x 0) ((at / 64 * 64 + (at % 64 + t .0)) % 64)) e ∙ ap (bit (getD ws (at / 64) 0)) g ∙ one)
+pub marked-word : (w s : ℕ) → w < 2 ^ 64 → (w / 2 ^ s ≡ 0 → ⊥) → Blank w s → ⊥
+marked-word w s h f k =
+    let t = some-bit (w / 2 ^ s) (lt-of-le-of-lt (div-le-self w (2 ^ s)) h) (omega arith) in
+    let one : bit w (s + t .0) ≡ 1 = bit-shift w s (t .0) ∙ t .1 in
+    room (s + t .0) (omega arith) one (decLe 64 (s + t .0))
   where
-    room : (i : ℕ) → bit (getD ws (at / 64) 0) i ≡ 1 → Dec (64 ≤ i) → i < 64
-    room i e (yes p) = absurd (omega (arith, e, bit-past (getD ws (at / 64) 0) 64 i h p))
-    room i e (no p) = omega arith
+    room : (i : ℕ) → s ≤ i → bit w i ≡ 1 → Dec (64 ≤ i) → ⊥
+    room i a e (yes p) = absurd (omega (arith, e, bit-past w 64 i h p))
+    room i a e (no p) = absurd (omega (arith, e, k i a (omega arith)))
+
+-- the word of `at` has no bit from its place on where no number from `at` on up to its end is marked
+module _ (ws : List ℕ) (at : ℕ) where
+  pub clean-word : Blank (getD ws (at / 64) 0) (at % 64) → (m : ℕ) → at ≤ m → m < 8192 → m < at + (64 - at % 64) → bitAt ws m ≡ 0
+  unfolding bitAt
+  clean-word k m a b d =
+      let e : m / 64 % 128 ≡ at / 64 = omega arith in
+      ap (λ (x : ℕ). bit (getD ws x 0) (m % 64)) e ∙ k (m % 64) (omega arith) (omega arith)
+
+  pub word-clean : at < 8192 → ((m : ℕ) → at ≤ m → m < 8192 → bitAt ws m ≡ 0) → Blank (getD ws (at / 64) 0) (at % 64)
+  unfolding bitAt
+  word-clean l k i a b =
+      let m = at / 64 * 64 + i in
+      let e : at / 64 ≡ m / 64 % 128 = omega arith in
+      let g : i ≡ m % 64 = omega arith in
+      ap (bit (getD ws (at / 64) 0)) g ∙ ap (λ (x : ℕ). bit (getD ws x 0) (m % 64)) e ∙ k m (omega arith) (omega arith)
 
 -- tests of two parts
 both : (a b : Bool) → (a && b) ≡ true → (a ≡ true) × (b ≡ true)

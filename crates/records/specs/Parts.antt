@@ -1,11 +1,21 @@
 -- What the parts of the code do to words and to a record, bit by bit.
-use Prim.Native.Nat.{ℕ, _+_, _-_, _≤_, _<_, max}
+use Prim.Native.Nat.{ℕ, _+_, _-_, _^_, _≤_, _<_, max}
 use mathlib.Core.Path.{_≡_}
 use mathlib.Core.Bool.{Bool, true, false, _&&_, _||_}
 use mathlib.Core.List.{List}
+use lib.ListN.{length, getD}
 use lib.Dec.{leb, eqb}
 use Rattle.records.specs.declared.Record.{Record}
 use Rattle.records.specs.Marks.{asBit, bit, bitAt, recorded, Sound}
+
+-- the record with these words and this top, which the code is lent apart
+abbrev pub joined : List ℕ → ℕ → Record
+joined ws T = record { words = ws; top = T }
+
+-- a ring of 128 words of 64 bits, which a lent one is to stay
+pub record Whole (ws : List ℕ) : Type 0 where
+  pub long : length ws ≡ 128
+  pub small : (k : ℕ) → getD ws k 0 < 2 ^ 64
 
 -- r is the word w without the bits from lo up to hi
 pub record Kept (w lo hi r : ℕ) : Type 0 where
@@ -17,6 +27,10 @@ pub record Kept (w lo hi r : ℕ) : Type 0 where
 pub record Put (w b r : ℕ) : Type 0 where
   pub same : bit r b ≡ 1
   pub other : (i : ℕ) → (i ≡ b → ⊥) → bit r i ≡ bit w i
+
+-- the word w has no bit from s on
+abbrev pub Blank : ℕ → ℕ → Type 0
+Blank w s = (i : ℕ) → s ≤ i → i < 64 → bit w i ≡ 0
 
 -- vs is the ring ws without the marks of the numbers from `from` up to `to`
 pub record Cleared (ws : List ℕ) (from to : ℕ) (vs : List ℕ) : Type 0 where

@@ -4,7 +4,7 @@ ghost use Prim.Native.Nat.{_+_, _≤_, _<_, _^_};
 ghost use Rattle.records.specs.Marks.{bitAt, recorded, noneOf, Clean, checkOf, testOf};
 ghost use Rattle.records.specs.Runs.{nextRun};
 ghost use Rattle.records.specs.Ring.{takenOf};
-ghost use Rattle.records.specs.Parts.{Kept, Put, Cleared, Slid, Marked, Down, Decides};
+ghost use Rattle.records.specs.Parts.{joined, Whole, Kept, Put, Blank, Cleared, Slid, Marked, Down, Decides};
 use answers::Answer;
 
 // A record is a value, handed in and handed back. The number n has the bit n % 64 of the word n / 64 % 128.
@@ -51,6 +51,141 @@ fn put(w: u64, b: u64) -> u64
     w | (1u64 << b)
 }
 
+// Whether the word w has no bit from s on.
+fn blank(w: u64, s: u64) -> bool
+    requires { ⌜ s < 64 ⌝ }
+    ensures { λ r. ⌜ Decides (Blank w s) r ⌝ }
+{
+    w >> s == 0
+}
+
+// The bit of the number n. This and what follows is lent the words, since a record by value is a copy of 1 KB for each call.
+fn bit_at(words: &[u64; 128], n: u64) -> u64
+    ensures { λ r. ⌜ r ≡ bitAt (now (words .entry)) n ⌝ }
+{
+    let at = (n / 64 % 128) as usize;
+    (words[at] >> (n % 64)) % 2
+}
+
+// The lowest number down to which, from `at`, all bits are like `ones`, but not below `bottom`.
+fn down(words: &[u64; 128], at: u64, bottom: u64, ones: bool) -> u64
+    requires { ⌜ bottom ≤ at ⌝ }
+    ensures { λ r. ⌜ Down (now (words .entry)) at bottom ones r ⌝ }
+{
+    let mut v = 0;
+    if ones {
+        v = 1;
+    }
+    let mut low = at;
+    while bottom < low {
+        if bit_at(words, low - 1) != v {
+            return low;
+        }
+        low = low - 1;
+    }
+    low
+}
+
+// Whether no number below 0 is marked: while the largest is below 8,191 the slots above it are theirs.
+fn clean(words: &[u64; 128], top: u64) -> bool
+    ensures { λ r. ⌜ Decides (Clean (joined (now (words .entry)) top)) r ⌝ }
+{
+    let mut at = top;
+    while at < 8192 {
+        let s = at % 64;
+        let k = (at / 64) as usize;
+        if !blank(words[k], s) {
+            return false;
+        }
+        at = at + (64 - s);
+    }
+    true
+}
+
+// 120 for a record that cannot be.
+fn check_of(words: &[u64; 128], top: u64) -> Answer
+    ensures { λ r. ⌜ r ≡ checkOf (joined (now (words .entry)) top) ⌝ }
+{
+    if 0 < top {
+        let largest = top - 1;
+        if MOST < largest {
+            return Answer::DoesNotFit;
+        }
+        if bit_at(words, largest) == 0 {
+            return Answer::DoesNotFit;
+        }
+    }
+    if clean(words, top) {
+        return Answer::Accepted;
+    }
+    Answer::DoesNotFit
+}
+
+// 106 for a number below the record, 107 for one in it already.
+fn test_of(words: &[u64; 128], top: u64, n: u64) -> Answer
+    ensures { λ r. ⌜ r ≡ testOf (joined (now (words .entry)) top) n ⌝ }
+{
+    // above the largest every number is fresh, and its slot is still another's
+    if top <= n {
+        return Answer::Accepted;
+    }
+    if 8192 < top - n {
+        return Answer::BelowRecord;
+    }
+    if bit_at(words, n) == 1 {
+        return Answer::InRecord;
+    }
+    Answer::Accepted
+}
+
+// Clears the bits of the numbers from `from` up to `to`, a part of a word at a time.
+fn clear(words: &mut [u64; 128], from: u64, to: u64)
+    requires { ⌜ (from ≤ to) × (to ≤ from + 8192) × (to < 2 ^ 63) × Whole (now words) ⌝ }
+    ensures { λ _. ⌜ Cleared (now (words .entry)) from to (now (words .exit)) ⌝ }
+    ensures { λ _. ⌜ Whole (now (words .exit)) ⌝ }
+{
+    let mut at = from;
+    while at < to {
+        let lo = at % 64;
+        let mut hi = 64;
+        if to - at < 64 - lo {
+            hi = lo + (to - at);
+        }
+        let k = (at / 64 % 128) as usize;
+        words[k] = kept(words[k], lo, hi);
+        at = at + (hi - lo);
+    }
+}
+
+// Moves the window up so far that n is not above it, and tells its top. The slots that it passes are cleared, all of them for a jump of 8,192 or more.
+fn slide(words: &mut [u64; 128], top: u64, n: u64) -> u64
+    requires { ⌜ (n < 2 ^ 62) × Whole (now words) ⌝ }
+    ensures { λ r. ⌜ Slid (joined (now (words .entry)) top) n (joined (now (words .exit)) r) ⌝ }
+    ensures { λ _. ⌜ Whole (now (words .exit)) ⌝ }
+{
+    if n < top {
+        return top;
+    }
+    let mut from = top;
+    if 8192 <= n - top {
+        from = n - 8191;
+    }
+    clear(words, from, n + 1);
+    n + 1
+}
+
+// Marks the number n, which is not below the record, and tells the top after it.
+fn mark(words: &mut [u64; 128], top: u64, n: u64) -> u64
+    requires { ⌜ (n < 2 ^ 62) × (top ≤ n + 8192) × Whole (now words) ⌝ }
+    ensures { λ r. ⌜ Marked (joined (now (words .entry)) top) n (joined (now (words .exit)) r) ⌝ }
+    ensures { λ _. ⌜ Whole (now (words .exit)) ⌝ }
+{
+    let next = slide(words, top, n);
+    let k = (n / 64 % 128) as usize;
+    words[k] = put(words[k], n % 64);
+    next
+}
+
 impl Record {
     // The record of a space of which nothing came.
     pub fn new() -> Self
@@ -62,121 +197,26 @@ impl Record {
         }
     }
 
-    // The bit of the number n.
-    fn bit(self, n: u64) -> u64
-        ensures { λ r. ⌜ r ≡ bitAt (self .words) n ⌝ }
-    {
-        let at = (n / 64 % 128) as usize;
-        (self.words[at] >> (n % 64)) % 2
-    }
-
-    // Whether no number below 0 is marked: while the largest is below 8,191 the slots above it are theirs.
-    fn clean(self) -> bool
-        ensures { λ r. ⌜ Decides (Clean self) r ⌝ }
-    {
-        let mut at = self.top;
-        while at < 8192 {
-            let s = at % 64;
-            let k = (at / 64) as usize;
-            if self.words[k] >> s != 0 {
-                return false;
-            }
-            at = at + (64 - s);
-        }
-        true
-    }
-
     // 120 for a record that cannot be.
     pub fn check(self) -> Answer
         ensures { λ r. ⌜ r ≡ checkOf self ⌝ }
     {
-        if 0 < self.top {
-            let largest = self.top - 1;
-            if MOST < largest {
-                return Answer::DoesNotFit;
-            }
-            if self.bit(largest) == 0 {
-                return Answer::DoesNotFit;
-            }
-        }
-        if self.clean() {
-            return Answer::Accepted;
-        }
-        Answer::DoesNotFit
+        check_of(&self.words, self.top)
     }
 
     // 106 for a number below the record, 107 for one in it already.
     pub fn test(self, n: u64) -> Answer
         ensures { λ r. ⌜ r ≡ testOf self n ⌝ }
     {
-        let top = self.top;
-        // above the largest every number is fresh, and its slot is still another's
-        if top <= n {
-            return Answer::Accepted;
-        }
-        if 8192 < top - n {
-            return Answer::BelowRecord;
-        }
-        if self.bit(n) == 1 {
-            return Answer::InRecord;
-        }
-        Answer::Accepted
-    }
-
-    // The bits of the numbers from `from` up to `to` cleared, a part of a word at a time.
-    fn cleared(mut self, from: u64, to: u64) -> Self
-        requires { ⌜ (from ≤ to) × (to ≤ from + 8192) × (to < 2 ^ 63) ⌝ }
-        ensures { λ r. ⌜ Cleared (self .words) from to (r .words) ⌝ }
-        ensures { λ r. ⌜ r .top ≡ self .top ⌝ }
-    {
-        let mut at = from;
-        while at < to {
-            let lo = at % 64;
-            let mut hi = 64;
-            if to - at < 64 - lo {
-                hi = lo + (to - at);
-            }
-            let k = (at / 64 % 128) as usize;
-            self.words[k] = kept(self.words[k], lo, hi);
-            at = at + (hi - lo);
-        }
-        self
-    }
-
-    // The window moved up so far that n is not above it. The slots that it passes are cleared, all of them for a jump of 8,192 or more.
-    fn slid(self, n: u64) -> Self
-        requires { ⌜ n < 2 ^ 62 ⌝ }
-        ensures { λ r. ⌜ Slid self n r ⌝ }
-    {
-        let top = self.top;
-        if n < top {
-            return self;
-        }
-        let mut from = top;
-        if 8192 <= n - top {
-            from = n - 8191;
-        }
-        let mut next = self.cleared(from, n + 1);
-        next.top = n + 1;
-        next
-    }
-
-    // The record with the number n, which is not below it.
-    fn mark(self, n: u64) -> Self
-        requires { ⌜ (n < 2 ^ 62) × (self .top ≤ n + 8192) ⌝ }
-        ensures { λ r. ⌜ Marked self n r ⌝ }
-    {
-        let mut next = self.slid(n);
-        let k = (n / 64 % 128) as usize;
-        next.words[k] = put(next.words[k], n % 64);
-        next
+        test_of(&self.words, self.top, n)
     }
 
     // Records a number that comes: 120, 111, 106 and 107 leave the record as it was.
-    pub fn take(self, n: u64) -> Taken
+    pub fn take(mut self, n: u64) -> Taken
         ensures { λ r. ⌜ r ≡ takenOf self n ⌝ }
     {
-        let Answer::Accepted = self.check() else {
+        let top = self.top;
+        let Answer::Accepted = check_of(&self.words, top) else {
             return Taken {
                 answer: Answer::DoesNotFit,
                 record: self,
@@ -188,36 +228,18 @@ impl Record {
                 record: self,
             };
         }
-        let answer = self.test(n);
+        let answer = test_of(&self.words, top, n);
         let Answer::Accepted = answer else {
             return Taken {
                 answer,
                 record: self,
             };
         };
+        self.top = mark(&mut self.words, top, n);
         Taken {
             answer,
-            record: self.mark(n),
+            record: self,
         }
-    }
-
-    // The lowest number down to which, from `at`, all bits are like `ones`, but not below `bottom`.
-    fn down(self, at: u64, bottom: u64, ones: bool) -> u64
-        requires { ⌜ bottom ≤ at ⌝ }
-        ensures { λ r. ⌜ Down (self .words) at bottom ones r ⌝ }
-    {
-        let mut v = 0;
-        if ones {
-            v = 1;
-        }
-        let mut low = at;
-        while bottom < low {
-            if self.bit(low - 1) != v {
-                return low;
-            }
-            low = low - 1;
-        }
-        low
     }
 
     // The next run of recorded numbers below `below`, as long as it can be.
@@ -236,13 +258,13 @@ impl Record {
         if at <= bottom {
             return Run::Nothing;
         }
-        let high = self.down(at, bottom, false);
+        let high = down(&self.words, at, bottom, false);
         if high <= bottom {
             return Run::Nothing;
         }
         Run::Span {
             high: high - 1,
-            low: self.down(high, bottom, true),
+            low: down(&self.words, high, bottom, true),
         }
     }
 }

@@ -13,7 +13,7 @@ use Rattle.records.proofs.Record.next_run.Statement.{statement}
 use Rattle.records.proofs.Record.next_run.Tie as tie
 
 -- where the window ends and the search begins
-base : (c : tie.Joined2) → let R = c .before .before .args .self in
+base : (c : tie.Joined2) → let R = c .before .before .args .t1 in
     (R .top ≤ c .before .if1 .bottom + 8192) × ((m : ℕ) → m < c .before .if1 .bottom → m + 8192 < R .top) × (c .if2 .at ≤ R .top)
     × (nextRun (recorded R) (c .before .before .args .below) ≡ nextRun (recorded R) (c .if2 .at))
 base c = (
@@ -22,7 +22,7 @@ base c = (
   ⊎-elim (λ w. omega arith) (λ w. omega arith) (c .if2 .came),
   ⊎-elim
       (λ w. passed _ _ _ (omega arith) (λ m a b. rec-above _ m (omega arith)))
-      (λ w. ap (nextRun (recorded (c .before .before .args .self))) (omega arith)) (c .if2 .came),
+      (λ w. ap (nextRun (recorded (c .before .before .args .t1))) (omega arith)) (c .if2 .came),
 )
 
 returns : tie.Need-returns
@@ -32,13 +32,13 @@ returns c =
 
 returns-2 : tie.Need-returns-2
 returns-2 c =
-    let b = base (c .before .before .before) in
+    let b = base (c .before .before .before .before .before) in
     run-none _ _ _ (b .0) (b .1) (b .2) _ (c .before .down .ensures) (c .if4 .taken) ∙ sym (b .3)
 
 returns-3 : tie.Need-returns-3
 returns-3 c =
-    let b = base (c .before .before .before .before) in
-    run-some _ _ _ (b .0) (b .1) (b .2) _ _ (c .before .before .down .ensures) (omega arith) (c .down2 .ensures) ∙ sym (b .3)
+    let b = base (c .before .before .before .before .before .before .before .before) in
+    run-some _ _ _ (b .0) (b .1) (b .2) _ _ (c .before .before .before .before .down .ensures) (omega arith) (c .down2 .ensures) ∙ sym (b .3)
 
 pub next-run-spec : {M : Type 1} → statement M
 next-run-spec =

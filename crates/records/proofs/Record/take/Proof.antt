@@ -11,6 +11,7 @@ use Rattle.answers.specs.declared.Answer.the-variants.{Accepted}
 use Rattle.answers.proofs.Numbers.{other}
 use Rattle.records.specs.Marks.{checkOf, testOf, Words}
 use Rattle.records.specs.Ring.{withMark}
+use Rattle.records.specs.Parts.{joined}
 use Rattle.records.proofs.Sound.{sound-facts}
 use Rattle.records.proofs.Same.{marked-one}
 use Rattle.records.proofs.Window.{with-words, with-marked}
@@ -19,35 +20,44 @@ use Rattle.records.proofs.Record.take.Statement.{statement}
 use Rattle.records.proofs.Record.take.Tie as tie
 
 returns : tie.Need-returns
-returns c = take-unfit _ _ (λ e. other (rw (c .before .check .ensures ∙ e) at (c .match .keys2)))
+returns c = take-unfit _ _ (λ e. other (rw (c .before .check-of .ensures ∙ e) at (c .match .keys2)))
 
 returns-2 : tie.Need-returns-2
 returns-2 c =
-    let a = c .before .before .before .before .args in
-    take-large (a .self) (a .n) (sym (c .before .before .before .check .ensures) ∙ c .before .enum-told .given .1) (omega arith)
+    let start = c .before .before .before in
+    let a = start .before .before .before .args in
+    take-large (a .t1) (a .n) (sym (start .check-of .ensures) ∙ c .before .enum-told .given .1) (omega arith)
 
 returns-3 : tie.Need-returns-3
 returns-3 c =
-    let start = c .before .before .before .before .before in
-    let a = start .before .args in
-    rw (c .before .test .ensures)
-    (take-known (a .self) (a .n) (sym (start .check .ensures) ∙ c .before .before .before .enum-told .given .1) (omega arith) (λ e. other (rw (c .before .test .ensures ∙ e) at (c .match2 .keys2))))
+    let fit = c .before .before .before .before .before in
+    let start = fit .before .before in
+    let a = start .before .before .before .args in
+    rw (c .before .test-of .ensures)
+    (take-known (a .t1) (a .n) (sym (start .check-of .ensures) ∙ fit .enum-told .given .1) (omega arith) (λ e. other (rw (c .before .test-of .ensures ∙ e) at (c .match2 .keys2))))
 
 mark-requires : tie.Need-mark-requires
 mark-requires c κs =
-    let a = c .before .before .before .before .before .before .before .args in
-    (omega arith, within (a .self) (a .n) (sym (c .before .before .test .ensures) ∙ c .enum-told2 .given .1))
+    let a = c .before .before .before .before .before .before .before .before .before .before .before .before .args in (
+      omega arith,
+      within (a .t1) (a .n) (sym (c .before .before .before .test-of .ensures) ∙ c .before .enum-told2 .given .1),
+      record { long = search needs; small = λ k. let f : Fits w64 (getD (a .t1 .words) k 0) = search needs in f .fits },
+    )
 
 returns-4 : tie.Need-returns-4
 returns-4 c =
-    let start = c .before .before .before .before .before .before .before in
-    let a = start .before .args in
-    let fit : checkOf (a .self) ≡ Accepted = sym (start .check .ensures) ∙ c .before .before .before .before .before .enum-told .given .1 in
-    let fresh : testOf (a .self) (a .n) ≡ Accepted = sym (c .before .before .before .test .ensures) ∙ c .before .enum-told2 .given .1 in
-    let words : Words (c .mark .result) = record { long = search needs; small = λ k. let f : Fits w64 (getD (c .mark .result .words) k 0) = search needs in f .fits } in
+    let new = c .before .before in
+    let start = c .before .before .before .before .before .before .before .before .before .before in
+    let a = start .before .before .before .args in
+    let R = a .t1 in
+    let S = joined (c .mark .last .0) (c .mark .result) in
+    let fit : checkOf R ≡ Accepted = sym (start .check-of .ensures) ∙ c .before .before .before .before .before .before .before .before .enum-told .given .1 in
+    let fresh : testOf R (a .n) ≡ Accepted = sym (new .before .before .test-of .ensures) ∙ new .enum-told2 .given .1 in
+    let whole = c .mark .ensures .1 in
+    let words : Words S = record { long = whole .long; small = whole .small } in
     let low : a .n < 2 ^ 62 = omega arith in
-    let same : c .mark .result ≡ withMark (a .self) (a .n) = marked-one _ _ _ _ (sound-facts _ (can-be _ fit)) words (with-words _ _ low) (c .mark .ensures) (with-marked _ _ low) in
-    rw (c .before .enum-told2 .given .1, same) (take-new (a .self) (a .n) fit (omega arith) fresh)
+    let same : S ≡ withMark R (a .n) = marked-one _ _ _ _ (sound-facts _ (can-be _ fit)) words (with-words _ _ low) (c .mark .ensures .0) (with-marked _ _ low) in
+    rw (new .enum-told2 .given .1, same) (take-new R (a .n) fit (omega arith) fresh)
 
 pub take-spec : {M : Type 1} → statement M
 take-spec =

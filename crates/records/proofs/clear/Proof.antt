@@ -1,24 +1,25 @@
--- `records::Record::cleared` meets its contract: the numbers up to `at` are cleared, and nothing else is changed.
+-- `records::clear` meets its contract: the numbers up to `at` are cleared, nothing else is changed, and what is stored are words of 64 bits.
 -- Assumes nothing.
 use borrow.Author.Needs.{needs}
 use native.Mathlib.Omega.{arith}
-use mathlib.Core.Path.{_≡_, refl, subst}
+use mathlib.Core.Path.{subst}
 use mathlib.Core.Logic.{⊎-elim}
 use Prim.Native.Nat.{ℕ, _+_, _-_, _%_, _≤_, _<_}
-use lib.ListN.{length, length-set}
-use Rattle.records.specs.Parts.{Cleared}
-use Rattle.records.proofs.Ring.{clear-turn, clear-none}
-use Rattle.records.proofs.Record.cleared.Statement.{statement}
-use Rattle.records.proofs.Record.cleared.Tie as tie
+use mir.Val.{Fits}
+use mir.Syntax.{w64}
+use Rattle.records.specs.Parts.{Whole, Cleared}
+use Rattle.records.proofs.Ring.{whole-set, clear-turn, clear-none}
+use Rattle.records.proofs.clear.Statement.{statement}
+use Rattle.records.proofs.clear.Tie as tie
 
 abbrev Inv-loop : tie.InvT-loop
-Inv-loop from to self₀ at₀ self at = (from ≤ at) × (at ≤ to) × (length (self .words) ≡ 128) × (self .top ≡ self₀ .top) × Cleared (self₀ .words) from at (self .words)
+Inv-loop words₀ from to at₀ words at = (from ≤ at) × (at ≤ to) × Whole words × Cleared words₀ from at words
 
 abbrev μ-loop : tie.MeasureT-loop
-μ-loop from to self₀ at₀ self at = to - at
+μ-loop words₀ from to at₀ words at = to - at
 
 loop-holds : tie.Need-loop-holds Inv-loop μ-loop
-loop-holds c = (search needs, search needs, search needs, refl, clear-none _ _)
+loop-holds c = (search needs, search needs, c .pre .3, clear-none _ _)
 
 -- the end of the part, by either arm
 part : (c : tie.Joined1 Inv-loop μ-loop) → let at = c .before .before .loop .at in (at % 64 < c .if1 .hi) × (c .if1 .hi ≤ 64) × (at + (c .if1 .hi - at % 64) ≤ c .before .before .before .args .to)
@@ -40,15 +41,16 @@ loop-again : tie.Need-loop-again Inv-loop μ-loop
 loop-again c =
     let p = part (c .before .before .before) in
     let i = c .before .before .before .before .before .loop .inv in
-    (omega arith, omega arith, simp length-set (i .2), i .3, clear-turn _ _ _ _ _ _ (i .2) (i .0) (p .0) (p .1) (omega arith) (c .before .kept .ensures) (i .4))
+    let f : Fits w64 (c .before .kept .result) = search needs in
+    (omega arith, omega arith, whole-set _ _ _ (omega arith) (f .fits) (i .2), clear-turn _ _ _ _ _ _ (i .2 .long) (i .0) (p .0) (p .1) (omega arith) (c .before .kept .ensures) (i .3))
 
 returns : tie.Need-returns Inv-loop μ-loop
 returns c =
     let a = c .before .before .args in
-    (subst (λ (x : ℕ). Cleared (a .t1 .words) (a .from) x (c .before .loop .self .words)) (omega arith) (c .before .loop .inv .4), c .before .loop .inv .3)
+    (subst (λ (x : ℕ). Cleared (a .words .now) (a .from) x (c .before .loop .words)) (omega arith) (c .before .loop .inv .3), c .before .loop .inv .2)
 
-pub cleared-spec : {M : Type 1} → statement M
-cleared-spec =
+pub clear-spec : {M : Type 1} → statement M
+clear-spec =
     tie.close
     (tie.spec
     Inv-loop

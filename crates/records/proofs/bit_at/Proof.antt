@@ -1,17 +1,17 @@
--- `records::Record::bit` meets its contract: the definition names the same word and the same bit.
+-- `records::bit_at` meets its contract: the definition names the same word and the same bit.
 -- Assumes nothing.
 use borrow.Author.Needs.{needs}
 use mathlib.Core.Path.{refl}
 use Rattle.records.specs.Marks.{bit, bitAt}
-use Rattle.records.proofs.Record.bit.Statement.{statement}
-use Rattle.records.proofs.Record.bit.Tie as tie
+use Rattle.records.proofs.bit_at.Statement.{statement}
+use Rattle.records.proofs.bit_at.Tie as tie
 
 returns : tie.Need-returns
 unfolding bitAt bit
 returns c = refl
 
-pub bit-spec : {M : Type 1} → statement M
-bit-spec =
+pub bit-at-spec : {M : Type 1} → statement M
+bit-at-spec =
     tie.close
     (tie.spec
     (λ c. search needs)

@@ -1,4 +1,4 @@
--- `records::Record::down` meets its contract: from `low` up to `at` all bits are like `ones`, and it stops at the first that is not.
+-- `records::down` meets its contract: from `low` up to `at` all bits are like `ones`, and it stops at the first that is not.
 -- Assumes nothing.
 use borrow.Author.Needs.{needs}
 use native.Mathlib.Omega.{arith}
@@ -7,14 +7,14 @@ use mathlib.Core.Path.{_≡_, sym, ap, _∙_}
 use mathlib.Core.Logic.{⊎-elim}
 use Prim.Native.Nat.{ℕ, _-_, _≤_, _<_}
 use Rattle.records.specs.Marks.{asBit, bitAt}
-use Rattle.records.proofs.Record.down.Statement.{statement}
-use Rattle.records.proofs.Record.down.Tie as tie
+use Rattle.records.proofs.down.Statement.{statement}
+use Rattle.records.proofs.down.Tie as tie
 
 abbrev Inv-loop : tie.InvT-loop
-Inv-loop self at bottom ones v low₀ low = (bottom ≤ low) × (low ≤ at) × (v ≡ asBit ones) × ((m : ℕ) → low ≤ m → m < at → bitAt (self .words) m ≡ asBit ones)
+Inv-loop words at bottom ones v low₀ low = (bottom ≤ low) × (low ≤ at) × (v ≡ asBit ones) × ((m : ℕ) → low ≤ m → m < at → bitAt words m ≡ asBit ones)
 
 abbrev μ-loop : tie.MeasureT-loop
-μ-loop self at bottom ones v low₀ low = low
+μ-loop words at bottom ones v low₀ low = low
 
 loop-holds : tie.Need-loop-holds Inv-loop μ-loop
 loop-holds c = (omega arith, omega arith, ⊎-elim (λ w. w .1 ∙ ap asBit (sym (w .0 .taken))) (λ w. w .1 ∙ ap asBit (sym (w .0 .left))) (c .if1 .came), λ m a b. absurd (omega arith))
@@ -22,7 +22,7 @@ loop-holds c = (omega arith, omega arith, ⊎-elim (λ w. w .1 ∙ ap asBit (sym
 returns : tie.Need-returns Inv-loop μ-loop
 returns c =
     let i = c .before .before .before .loop .inv in
-    record { within = i .1; least = i .0; all = i .3; stop = λ h e. c .if2 .taken (c .before .bit .ensures ∙ e ∙ sym (i .2)) }
+    record { within = i .1; least = i .0; all = i .3; stop = λ h e. c .if2 .taken (c .before .bit-at .ensures ∙ e ∙ sym (i .2)) }
 
 loop-again : tie.Need-loop-again Inv-loop μ-loop
 loop-again c =
@@ -30,8 +30,8 @@ loop-again c =
     (omega arith, omega arith, l .inv .2, λ m a b. go m a b (ℕ-discrete m (l .low - 1)))
   where
     go : (m : ℕ) → c .before .before .before .loop .low - 1 ≤ m → m < c .before .before .before .before .before .args .at → Dec (m ≡ c .before .before .before .loop .low - 1)
-        → bitAt (c .before .before .before .before .before .args .self .words) m ≡ asBit (c .before .before .before .before .before .args .ones)
-    go m a b (yes e) = ap (bitAt (c .before .before .before .before .before .args .self .words)) e ∙ sym (c .before .bit .ensures) ∙ c .if2 .left ∙ c .before .before .before .loop .inv .2
+        → bitAt (c .before .before .before .before .before .args .words .now) m ≡ asBit (c .before .before .before .before .before .args .ones)
+    go m a b (yes e) = ap (bitAt (c .before .before .before .before .before .args .words .now)) e ∙ sym (c .before .bit-at .ensures) ∙ c .if2 .left ∙ c .before .before .before .loop .inv .2
     go m a b (no f) = c .before .before .before .loop .inv .3 m (omega arith) b
 
 returns-2 : tie.Need-returns-2 Inv-loop μ-loop
