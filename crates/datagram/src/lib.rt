@@ -4,7 +4,7 @@ ghost use Prim.Native.Nat.{_+_, _≤_, _<_};
 ghost use lib.ListN.{length, getD};
 ghost use Rattle.wire.specs.Number.{bigEndian, plainAt};
 ghost use Rattle.datagram.specs.Header.{wholeOf};
-ghost use Rattle.datagram.specs.Split.{bytesAfter, invariantOf, negotiationOf, retryOf, numberedOf, initialOf, versionOneOf, longOf, shortOf, nextOf};
+ghost use Rattle.datagram.specs.Split.{bytesAfter, invariantOf, negotiationOf, retryOf, numberedOf, initialOf, versionOneOf, longOf, nextOf};
 use answers::Answer;
 use wire::Number;
 
@@ -286,25 +286,6 @@ fn long(rest: &[u8], first: u8) -> Next
     whole(rest, Kind::OtherVersion, version, destination, source)
 }
 
-fn short(rest: &[u8], first: u8) -> Next
-    requires { ⌜ first ≡ getD (now rest) 0 0 ⌝ }
-    ensures { λ r. ⌜ r ≡ shortOf (now (rest .entry)) ⌝ }
-{
-    if first / 64 % 2 != 1 {
-        return Next::Stop {
-            answer: Answer::NoPacket,
-        };
-    }
-    if rest.len() < 29 {
-        return Next::Stop {
-            answer: Answer::NoPacket,
-        };
-    }
-    let destination = Part { at: 1, len: 8 };
-    let source = Part { at: 9, len: 0 };
-    whole(rest, Kind::OneRtt, 1, destination, source)
-}
-
 // The header of the packet at the start of the rest of a datagram. The next rest begins at its end.
 pub fn split(rest: &[u8]) -> Next
     ensures { λ r. ⌜ r ≡ nextOf (now (rest .entry)) ⌝ }
@@ -318,5 +299,17 @@ pub fn split(rest: &[u8]) -> Next
     if first / 128 % 2 == 1 {
         return long(rest, first);
     }
-    short(rest, first)
+    if first / 64 % 2 != 1 {
+        return Next::Stop {
+            answer: Answer::NoPacket,
+        };
+    }
+    if rest.len() < 29 {
+        return Next::Stop {
+            answer: Answer::NoPacket,
+        };
+    }
+    let destination = Part { at: 1, len: 8 };
+    let source = Part { at: 9, len: 0 };
+    whole(rest, Kind::OneRtt, 1, destination, source)
 }

@@ -6,7 +6,7 @@ use mathlib.Core.List.{List, [], _∷_}
 use mathlib.Core.Logic.{_⊎_, inl, inr, ⊎-elim}
 use Prim.Native.Nat.{ℕ, suc, _+_, _-_, _*_, _^_, _≤_, _<_}
 use native.Mathlib.Omega.{arith}
-use borrow.Author.Tests.{ltb-false, le-ltb}
+use borrow.Author.Tests.{ltb-false, lt-ltb, le-ltb}
 use lib.Dec.{ltb}
 use lib.ListN.{length, getD, set}
 use lib.Seq.{sets, length-sets, getD-set-other}
@@ -61,6 +61,11 @@ module _ (out : List ℕ) (at v : ℕ) where
   pub accepts : v < 2 ^ 62 → at + sizeOf v ≤ length out → wroteOf (length out) at v ≡ To (at + sizeOf v)
   unfolding wroteOf
   accepts h k = simp (le-ltb (2 ^ 62 - 1) v (omega arith), le-ltb _ _ k)
+
+  -- 109 comes before 108: however short the output is, a value above 2^62-1 answers 109
+  pub range-first : (n : ℕ) → 2 ^ 62 - 1 < v → wroteOf n at v ≡ Refused Unwritable
+  unfolding wroteOf
+  range-first n h = simp (lt-ltb (2 ^ 62 - 1) v h)
 
   pub same-length : length (outOf out at v) ≡ length out
   unfolding outOf

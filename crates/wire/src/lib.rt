@@ -42,13 +42,6 @@ fn four(s: &[u8], at: usize) -> u64
     two(s, at) * 65536 + two(s, at + 2)
 }
 
-fn eight(s: &[u8], at: usize) -> u64
-    requires { ⌜ at + 8 ≤ length (now s) ⌝ }
-    ensures { λ r. ⌜ r ≡ bigEndian (now (s .entry)) at 8 ⌝ }
-{
-    four(s, at) * 4294967296 + four(s, at + 4)
-}
-
 // Reads the number at a place.
 pub fn read(s: &[u8], at: usize) -> Number
     ensures { λ r. ⌜ r ≡ numberAt (now (s .entry)) at ⌝ }
@@ -86,7 +79,7 @@ pub fn read(s: &[u8], at: usize) -> Number
         return Number::CutShort;
     }
     Number::Is {
-        value: eight(s, at) % 4611686018427387904,
+        value: (four(s, at) * 4294967296 + four(s, at + 4)) % 4611686018427387904,
         next: at + 8,
     }
 }
@@ -123,14 +116,6 @@ fn put_four(out: &mut [u8], at: usize, x: u64)
     put_two(out, at + 2, x);
 }
 
-fn put_eight(out: &mut [u8], at: usize, x: u64)
-    requires { ⌜ at + 8 ≤ length (now out) ⌝ }
-    ensures { λ _. ⌜ now (out .exit) ≡ sets (now (out .entry)) at (spelled 8 x) ⌝ }
-{
-    put_four(out, at, x / 4294967296);
-    put_four(out, at + 4, x);
-}
-
 // Writes v, which is no more than MOST, at a place with room for it.
 fn put(out: &mut [u8], at: usize, v: u64) -> usize
     requires { ⌜ (v < 2 ^ 62) × (at + sizeOf v ≤ length (now out)) ⌝ }
@@ -148,7 +133,9 @@ fn put(out: &mut [u8], at: usize, v: u64) -> usize
         put_four(out, at, 2147483648 + v);
         return at + 4;
     }
-    put_eight(out, at, 13835058055282163712 + v);
+    let x = 13835058055282163712 + v;
+    put_four(out, at, x / 4294967296);
+    put_four(out, at + 4, x);
     at + 8
 }
 

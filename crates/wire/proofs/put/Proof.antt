@@ -4,6 +4,8 @@ use borrow.Author.Needs.{needs}
 use native.Mathlib.Omega.{arith}
 use mathlib.Core.Path.{refl}
 use native.Mathlib.Nat.{zero-add}
+use Rattle.wire.proofs.BigEndian.{spelled-join, length-spelled}
+use Rattle.wire.proofs.Standing.{sets-append}
 use Rattle.wire.proofs.Forms.{sized, formed, form-0, form-1, form-2, form-3}
 use Rattle.wire.specs.Number.{valuesIn, spelled}
 use Rattle.wire.proofs.put.Statement.{statement}
@@ -30,12 +32,22 @@ returns-3 : tie.Need-returns-3
 unfolding valuesIn
 returns-3 c = let v = c .before .before .before .before .before .before .before .before .args .v in let f = form-2 v (omega arith) (omega arith) in rw (sized v 2 f, formed v 2 f) (search needs)
 
-put-eight-requires : tie.Need-put-eight-requires
-put-eight-requires c κs = let v = c .before .before .before .before .before .args .v in omega (arith, sized v 3 (form-3 v (omega arith)))
+put-four-requires-2 : tie.Need-put-four-requires-2
+put-four-requires-2 c κs =
+    let v = c .before .before .before .before .before .args .v in
+    omega (arith, sized v 3 (form-3 v (omega arith)))
+
+put-four-requires-3 : tie.Need-put-four-requires-3
+put-four-requires-3 c κs =
+    let v = c .before .before .before .before .before .before .before .before .before .args .v in
+    omega (arith, sized v 3 (form-3 v (omega arith)), c .before .before .before .put-four2 .kept .0)
 
 returns-4 : tie.Need-returns-4
 unfolding valuesIn
-returns-4 c = let v = c .before .before .before .before .before .before .before .before .args .v in let f = form-3 v (omega arith) in rw (sized v 3 f, formed v 3 f) (search needs)
+returns-4 c =
+    let v = c .before .before .before .before .before .before .before .before .before .before .before .before .args .v in
+    let f = form-3 v (omega arith) in
+    rw (sized v 3 f, formed v 3 f, spelled-join 4 4 _, sets-append, length-spelled, c .before .before .put-four3 .ensures, c .before .before .before .before .before .before .put-four2 .ensures) (refl, refl)
 
 pub put-spec : {M : Type 1} → statement M
 put-spec =
@@ -57,7 +69,9 @@ put-spec =
     (λ c. search needs)
     returns-3
     (λ c. search needs)
-    put-eight-requires
+    put-four-requires-2
+    (λ c. search needs)
+    put-four-requires-3
     (λ c. search needs)
     (λ c. search needs)
     returns-4)

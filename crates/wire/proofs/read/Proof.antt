@@ -3,6 +3,8 @@
 use borrow.Author.Needs.{needs}
 use mathlib.Core.Path.{sym, _∙_}
 use native.Mathlib.Omega.{arith}
+use denote.Ref.{now}
+use Rattle.wire.proofs.BigEndian.{join}
 use Rattle.wire.proofs.Forms.{by-form, there, form-byte, cut, past}
 use Rattle.wire.specs.Number.{valuesIn, bigEndian}
 use Rattle.wire.proofs.read.Statement.{statement}
@@ -33,7 +35,10 @@ returns-7 c = sym (by-form _ _ 3 (omega (arith, c .before .before .before .befor
 
 returns-8 : tie.Need-returns-8
 unfolding valuesIn
-returns-8 c = rw (c .eight .ensures) (sym (by-form _ _ 3 (omega (arith, c .before .before .before .before .before .shared-slice-known2 .given (c .before .before .before .before .before .before .before .before .args .at))) ∙ there _ _ 8 _ (search needs)))
+returns-8 c =
+    let a = c .before .before .before .before .before .before .before .before .before .args in
+    rw (c .before .four2 .ensures .0, c .four3 .ensures .0, ← join (now (a .s)) (a .at) 4 4)
+    (sym (by-form _ _ 3 (omega (arith, c .before .before .before .before .before .before .shared-slice-known2 .given (a .at))) ∙ there _ _ 8 _ (search needs)))
 
 pub read-spec : {M : Type 1} → statement M
 read-spec =
@@ -55,5 +60,9 @@ read-spec =
     returns-6
     returns-7
     (λ c κs. search needs)
+    (λ c. search needs)
+    (λ c. search needs)
+    (λ c κs. search needs)
+    (λ c. search needs)
     (λ c. search needs)
     returns-8)
