@@ -1,11 +1,11 @@
 -- The acknowledgement reads back, number after number, as the frame of the record's first 32 runs; and only the delay can be out of range.
 -- Assumes nothing.
-use mathlib.Core.Path.{_≡_, refl, sym, _∙_, ap}
-use mathlib.Core.Bool.{Bool, true, false, not, _&&_}
-use mathlib.Core.List.{List, [], _∷_}
-use Prim.Native.Nat.{ℕ, zero, suc, _+_, _-_, _^_, _≤_, _<_}
+use mathlib.Core.Path.{_≡_, refl}
+use mathlib.Core.Bool.{Bool, true, false, not}
+use mathlib.Core.List.{List}
+use Prim.Native.Nat.{ℕ, zero, suc, _-_, _^_, _≤_}
 use native.Mathlib.Omega.{arith}
-use borrow.Author.Tests.{le-leb, eqb-false}
+use borrow.Author.Tests.{le-leb}
 use lib.Dec.{eqb, leb}
 use lib.ListN.{length}
 use Rattle.answers.specs.Choice.{_⇒_∣_}
@@ -17,7 +17,7 @@ use Rattle.records.specs.declared.Record.{Record}
 use Rattle.records.specs.declared.Run.{Run}
 use Rattle.records.specs.declared.Run.the-variants.{Span, Nothing}
 use Rattle.records.specs.Marks.{recorded, soundOf}
-use Rattle.records.specs.Runs.{nextRun, afterRun, runsDown, IsRun, RunOf}
+use Rattle.records.specs.Runs.{nextRun, afterRun, runsDown, RunOf}
 use Rattle.records.proofs.Meaning.{run-is}
 use Rattle.records.proofs.Sound.{sound-facts}
 use Rattle.acks.specs.Ack.{rangesOf, frameOf, ackOf, wroteAckOf, outAckOf}

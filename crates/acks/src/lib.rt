@@ -1,8 +1,7 @@
 // The acknowledgement of a space (RFC 9000, 19.3): a record written as an ACK frame of at most 32 runs.
 ghost use mathlib.Core.Path.{_≡_};
-ghost use Prim.Native.Nat.{_+_, _≤_};
-ghost use lib.ListN.{length, take};
-ghost use Rattle.acks.specs.Ack.{ackOf, wroteAckOf, outAckOf};
+ghost use lib.ListN.{length};
+ghost use Rattle.acks.specs.Ack.{wroteAckOf, outAckOf};
 ghost use Rattle.acks.specs.Parts.{Above, Ranged, Framed};
 use answers::Answer;
 use records::Record;

@@ -12,11 +12,6 @@ pub holds {ℓ κ} : {A : Type ℓ} (P : A → Type κ) (b : Bool) (x y : A) →
 holds P true x y p q = p refl
 holds P false x y p q = q refl
 
--- where both sides are the same the test does not matter
-pub same {ℓ} : {A : Type ℓ} (b : Bool) (x : A) → (b ⇒ x ∣ x) ≡ x
-same true x = refl
-same false x = refl
-
 -- by which of two numbers is below
 pub below-or-not {ℓ} : {G : Type ℓ} (a b : ℕ) → (a < b → G) → (b ≤ a → G) → G
 below-or-not {G} a b p q = holds (λ (t : Bool). G) (ltb a b) true false (λ e. p (ltb-true a b e)) (λ e. q (ltb-false a b e))

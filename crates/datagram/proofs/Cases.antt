@@ -1,6 +1,6 @@
 -- What `bytesAfter` and `invariantOf` find: as many bytes as were counted, within the rest, and both IDs in their order.
 -- Assumes nothing.
-use mathlib.Core.Path.{_≡_, refl, subst, _∙_}
+use mathlib.Core.Path.{_≡_, refl, subst}
 use mathlib.Core.List.{List}
 use Prim.Native.Nat.{ℕ, _+_, _≤_, _<_}
 use native.Mathlib.Omega.{arith}

@@ -1,16 +1,14 @@
 -- Every header that is split off lies inside the rest: each part is read after the one before it, and each is tested against the rest's length.
 -- Assumes nothing.
-use mathlib.Core.Path.{_≡_, refl, sym, _∙_, subst}
-use mathlib.Core.Bool.{Bool, true, false, not}
+use mathlib.Core.Path.{_≡_, subst}
+use mathlib.Core.Bool.{Bool, true, false, not, false≢true}
 use mathlib.Core.List.{List}
-use mathlib.Core.Logic.{_⊎_, inl, inr}
-use Prim.Native.Nat.{ℕ, _+_, _-_, _/_, _%_, _≤_, _<_}
+use Prim.Native.Nat.{ℕ, _+_, _-_, _%_, _≤_, _<_}
 use native.Mathlib.Omega.{arith}
-use borrow.Author.Tests.{ltb-false, eqb-true, eqb-false, eq-eqb, ne-eqb}
+use borrow.Author.Tests.{ltb-false, eq-eqb, ne-eqb}
 use lib.Dec.{ltb, eqb}
 use lib.ListN.{length}
-use Rattle.answers.specs.declared.Answer.{Answer}
-use Rattle.answers.specs.declared.Answer.the-variants.{Done, NoPacket}
+use Rattle.answers.specs.declared.Answer.the-variants.{Done}
 use Rattle.answers.proofs.Choice.{holds, below-or-not}
 use Rattle.wire.specs.Number.{numberAt}
 use Rattle.wire.proofs.Sound.{sound}
@@ -18,7 +16,6 @@ use Rattle.datagram.specs.declared.Kind.{Kind}
 use Rattle.datagram.specs.declared.Kind.the-variants.{Initial, ZeroRtt, Handshake, Retry, OneRtt, VersionNegotiation, OtherVersion}
 use Rattle.datagram.specs.declared.Part.{Part}
 use Rattle.datagram.specs.declared.Header.{Header}
-use Rattle.datagram.specs.declared.Next.{Next}
 use Rattle.datagram.specs.declared.Next.the-variants.{Packet, Stop}
 use Rattle.datagram.specs.Header.{bit, firstOf, typeOf, partOf, after, headerOf, wholeOf}
 use Rattle.datagram.specs.Inside.{numbered, Inside, Fine}
@@ -27,7 +24,7 @@ use Rattle.datagram.specs.Split.{bytesAfter, invariantOf, negotiationOf,
 use Rattle.datagram.proofs.Cases.{Ordered, counted, ordered, with-bytes, with-invariant}
 
 never : {A : Type 0} → _≡_ {A = Bool} false true → A
-never e = let z : _≡_ {A = ℕ} 0 1 = cc in absurd (omega arith)
+never e = absurd (false≢true e)
 
 module _ (s : List ℕ) (d u : Part) (o : Ordered s d u) where
   whole-fine : (kind : Kind) (version : ℕ) → (numbered kind ≡ true → after u + 20 ≤ length s) → Fine s (Packet (wholeOf s kind version d u))

@@ -1,15 +1,15 @@
 -- The protected bits of the first byte are not looked at: all other bytes are read from places above 0, and of the first only the top bits are tested.
 -- Assumes nothing.
-use mathlib.Core.Path.{_≡_, refl, sym, _∙_, ap}
-use mathlib.Core.Bool.{Bool, true, false, not}
+use mathlib.Core.Path.{_≡_, refl}
+use mathlib.Core.Bool.{Bool, true, false}
 use mathlib.Core.List.{List, _∷_}
-use Prim.Native.Nat.{ℕ, zero, suc, _+_, _*_, _/_, _%_, _^_, _≤_, _<_}
+use Prim.Native.Nat.{ℕ, zero, suc, _+_, _/_, _%_, _^_, _<_}
 use native.Mathlib.Omega.{arith}
 use borrow.Author.Tests.{eqb-true}
 use lib.Dec.{eqb}
 use lib.ListN.{length, getD}
 use Rattle.answers.specs.Choice.{_⇒_∣_}
-use Rattle.wire.specs.Number.{bigEndian, fieldAt, plainAt, valuesIn, numberAt, withNumber}
+use Rattle.wire.specs.Number.{bigEndian, fieldAt, plainAt, numberAt, withNumber}
 use Rattle.wire.specs.declared.Number.{Number}
 use Rattle.wire.specs.declared.Number.the-variants as Number'
 use Rattle.wire.proofs.Sound.{found, sound}

@@ -1,7 +1,7 @@
 -- Packet numbers as a caller needs them: while none is recorded a number is itself, a recovered number agrees with what was read, and a size that is given is the least that is enough.
 -- Assumes nothing.
 use mathlib.Core.Path.{_≡_, refl, sym, _∙_, ap, subst}
-use mathlib.Core.Bool.{Bool, true, false, _&&_}
+use mathlib.Core.Bool.{true, false, _&&_, and-eq-true-iff}
 use Prim.Native.Nat.{ℕ, zero, suc, _+_, _-_, _/_, _%_, _^_, _≤_, _<_}
 use native.Mathlib.Nat.{zero-add, zero-mul, zero-div, mod-mod, mod-eq-of-lt, mul-add-mod-self-right, add-mod-right, mod-eq-sub-mod, pow-le-pow-right}
 use native.Mathlib.Omega.{arith}
@@ -32,10 +32,6 @@ itself size t h =
     let n : nearestOf 0 W t ≡ t = stay 0 W t (λ low. omega arith) (λ high. omega arith) ∙ c in
     rw (n, lt-ltb t (2 ^ 62) (omega arith))
 
-second : (a b : Bool) → a && b ≡ true → b ≡ true
-second true b e = e
-second false b e = let z : _≡_ {A = ℕ} 0 1 = cc in absurd (omega arith)
-
 -- what is added or taken away is a multiple of the window
 nearest-agrees : (E W t : ℕ) → nearestOf E W t % W ≡ t % W
 unfolding nearestOf
@@ -43,7 +39,7 @@ nearest-agrees E W t =
     let c = candidateOf E W t in
     let a : c % W ≡ t % W = mul-add-mod-self-right (E / W) W (t % W) ∙ mod-mod t W in
     holds Agrees (leb (c + W / 2) E && ltb (c + W) (2 ^ 62)) _ _ (λ e. add-mod-right c W ∙ a) (λ e.
-    holds Agrees (ltb (E + W / 2) c && leb W c) _ _ (λ f. sym (mod-eq-sub-mod (leb-true W c (second (ltb (E + W / 2) c) (leb W c) f))) ∙ a) (λ f. a))
+    holds Agrees (ltb (E + W / 2) c && leb W c) _ _ (λ f. sym (mod-eq-sub-mod (leb-true W c (and-eq-true-iff (ltb (E + W / 2) c) (leb W c) .0 f .1))) ∙ a) (λ f. a))
   where
     Agrees : ℕ → Type 0
     Agrees n = n % W ≡ t % W

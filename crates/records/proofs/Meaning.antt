@@ -2,14 +2,13 @@
 -- Assumes nothing.
 use Prim.Native.Nat.{ℕ, zero, suc, _+_, _-_, _≤_, _<_}
 use mathlib.Core.Path.{_≡_, refl, sym, _∙_, ap}
-use mathlib.Core.Bool.{Bool, true, false}
+use mathlib.Core.Bool.{Bool, true, false, true≢false}
 use native.Mathlib.Omega.{arith}
 use native.Mathlib.Decide.{ℕ-discrete}
 use Rattle.answers.specs.Choice.{_⇒_∣_}
 use Rattle.records.specs.declared.Run.{Run}
 use Rattle.records.specs.declared.Run.the-variants.{Span, Nothing}
 use Rattle.records.specs.Runs.{lowest, nextRun, Lowest, IsRun, RunOf}
-use Rattle.records.proofs.Sound.{different}
 
 pub lowest-is : (P : ℕ → Bool) (k : ℕ) → Lowest P k (lowest P k)
 unfolding lowest
@@ -56,7 +55,7 @@ pub apart : (P : ℕ → Bool) (k h l : ℕ) → 0 < k → P (k - 1) ≡ false �
 apart P k h l pos e r = go (ℕ-discrete h (k - 1))
   where
     go : Dec (h ≡ k - 1) → h + 2 ≤ k
-    go (yes f) = absurd (different (sym (r .all h (r .ordered) (omega arith)) ∙ ap P f ∙ e))
+    go (yes f) = absurd (true≢false (sym (r .all h (r .ordered) (omega arith)) ∙ ap P f ∙ e))
     go (no f) = omega (arith, r .below)
 
 -- between two runs a number is missing, so that the gap of an ACK, low - high' - 2, is not negative

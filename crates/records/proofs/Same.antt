@@ -2,7 +2,7 @@
 -- Assumes nothing.
 use Prim.Native.Nat.{ℕ, zero, suc, _+_, _-_, _*_, _/_, _%_, _^_, _≤_, _<_}
 use mathlib.Core.Path.{_≡_, sym, _∙_, ap, subst}
-use mathlib.Core.Bool.{_&&_, _||_}
+use mathlib.Core.Bool.{_&&_, _||_, true≢false}
 use native.Mathlib.Omega.{arith}
 use native.Mathlib.Decide.{decLe, ℕ-discrete}
 use native.Mathlib.Nat.{le-antisymm}
@@ -15,7 +15,6 @@ use Rattle.records.specs.Marks.{bit, bitAt, recorded, Words, Sound}
 use Rattle.records.specs.Parts.{Marked}
 use Rattle.records.proofs.Bits.{bit-shift}
 use Rattle.records.proofs.Ring.{rec-in, rec-above, same-place, bit-at-lt}
-use Rattle.records.proofs.Sound.{different}
 
 -- two words of k bits with the same bits are one
 bits-ext : (k a b : ℕ) → a < 2 ^ k → b < 2 ^ k → ((i : ℕ) → i < k → bit a i ≡ bit b i) → a ≡ b
@@ -40,7 +39,7 @@ module _ (R S : Record) (hold : (m : ℕ) → recorded R m ≡ recorded S m) (r 
       go : Dec (R .top ≤ S .top) → R .top ≤ S .top
       go (yes p) = p
       go (no p) =
-          absurd (different (sym (rec-in R (R .top - 1) (omega arith) (omega arith) ∙ eq-eqb _ 1 (r .last (omega arith))) ∙ hold (R .top - 1) ∙ rec-above S (R .top - 1) (omega arith)))
+          absurd (true≢false (sym (rec-in R (R .top - 1) (omega arith) (omega arith) ∙ eq-eqb _ 1 (r .last (omega arith))) ∙ hold (R .top - 1) ∙ rec-above S (R .top - 1) (omega arith)))
 
   same-in : R .top ≡ S .top → (m : ℕ) → m < R .top → R .top ≤ m + 8192 → bitAt (R .words) m ≡ bitAt (S .words) m
   same-in e m a b = same-digit _ _ (bit-at-lt (R .words) m) (bit-at-lt (S .words) m) (sym (rec-in R m a b) ∙ hold m ∙ rec-in S m (omega arith) (omega arith))

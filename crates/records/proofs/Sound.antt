@@ -2,7 +2,7 @@
 -- Assumes nothing.
 use Prim.Native.Nat.{ℕ, zero, suc, _+_, _-_, _*_, _/_, _%_, _^_, _≤_, _<_}
 use mathlib.Core.Path.{_≡_, refl, sym, _∙_, ap}
-use mathlib.Core.Bool.{Bool, true, false, _&&_, _||_}
+use mathlib.Core.Bool.{Bool, true, false, _&&_, _||_, true≢false, and-eq-true-iff}
 use mathlib.Core.List.{List}
 use native.Mathlib.Omega.{arith}
 use native.Mathlib.Decide.{decLe, ℕ-discrete}
@@ -18,9 +18,6 @@ use Rattle.records.specs.Marks.{bit, bitAt, recorded, unmarked, soundOf,
 use Rattle.records.specs.Parts.{Blank}
 use Rattle.records.proofs.Bits.{bit-shift, bit-zero, bit-past, some-bit}
 use Rattle.records.proofs.Ring.{rec-in}
-
-pub different : true ≡ false → ⊥
-different e = let z : _≡_ {A = ℕ} 0 1 = cc in omega arith
 
 -- a word with no bit from s on, as the shift finds it
 pub blank-word : (w s : ℕ) → w / 2 ^ s ≡ 0 → Blank w s
@@ -55,12 +52,8 @@ module _ (ws : List ℕ) (at : ℕ) where
       ap (bit (getD ws (at / 64) 0)) g ∙ ap (λ (x : ℕ). bit (getD ws x 0) (m % 64)) e ∙ k m (omega arith) (omega arith)
 
 -- tests of two parts
-both : (a b : Bool) → (a && b) ≡ true → (a ≡ true) × (b ≡ true)
-both true b e = (refl, e)
-both false b e = absurd (different (sym e))
-
 either : (a b : Bool) → (a || b) ≡ true → a ≡ false → b ≡ true
-either true b e f = absurd (different f)
+either true b e f = absurd (true≢false f)
 either false b e f = e
 
 module _ (ws : List ℕ) where
@@ -68,7 +61,7 @@ module _ (ws : List ℕ) where
   unfolding unmarked
   unmarked-facts p zero e m a b = absurd (omega arith)
   unmarked-facts p (suc k) e m a b =
-      let f = both (eqb (bitAt ws p) 0) (unmarked ws (suc p) k) e in
+      let f = and-eq-true-iff (eqb (bitAt ws p) 0) (unmarked ws (suc p) k) .0 e in
       go (eqb-true _ 0 (f .0)) (ℕ-discrete m p) (λ l. unmarked-facts (suc p) k (f .1) m l (omega arith))
     where
       go : bitAt ws p ≡ 0 → Dec (m ≡ p) → (suc p ≤ m → bitAt ws m ≡ 0) → bitAt ws m ≡ 0
@@ -85,8 +78,8 @@ module _ (R : Record) where
   pub sound-facts : soundOf R ≡ true → Sound R
   unfolding soundOf
   sound-facts e =
-      let s = both (unmarked (R .words) (R .top) (8192 - R .top)) ((eqb (R .top) 0 || recorded R (R .top - 1)) && leb (R .top) (2 ^ 62)) e in
-      let t = both (eqb (R .top) 0 || recorded R (R .top - 1)) (leb (R .top) (2 ^ 62)) (s .1) in
+      let s = and-eq-true-iff (unmarked (R .words) (R .top) (8192 - R .top)) ((eqb (R .top) 0 || recorded R (R .top - 1)) && leb (R .top) (2 ^ 62)) .0 e in
+      let t = and-eq-true-iff (eqb (R .top) 0 || recorded R (R .top - 1)) (leb (R .top) (2 ^ 62)) .0 (s .1) in
       record {
         clean = λ m a b. unmarked-facts (R .words) (R .top) (8192 - R .top) (s .0) m a (omega arith);
         last = λ p. eqb-true _ 1 (sym (rec-in R (R .top - 1) (omega arith) (omega arith)) ∙ either (eqb (R .top) 0) _ (t .0) (ne-eqb (R .top) 0 (omega arith)));

@@ -1,9 +1,9 @@
 -- A row that was written reads back, number after number: where it stands, its first number is read and the rest stands behind it.
 -- Assumes nothing.
 use mathlib.Core.Path.{_≡_, refl, sym, subst}
-use mathlib.Core.Bool.{Bool, true, false, not}
-use mathlib.Core.List.{List, [], _∷_, _++_}
-use Prim.Native.Nat.{ℕ, _+_, _-_, _^_, _≤_, _<_}
+use mathlib.Core.Bool.{Bool, true, false, not, and-eq-true-iff}
+use mathlib.Core.List.{List, [], _∷_}
+use Prim.Native.Nat.{ℕ, _+_, _-_, _^_}
 use native.Mathlib.Nat.{add-zero, add-assoc}
 use native.Mathlib.Omega.{arith}
 use borrow.Author.Tests.{leb-true, ltb-false}
@@ -20,7 +20,6 @@ use Rattle.wire.proofs.Standing.{left, right, stored}
 use Rattle.wire.proofs.Back.{back}
 use Rattle.wire.proofs.Exit.{length-bytes}
 use Rattle.row.specs.Row.{inRange, sizeAll, bytesAll, wroteRowOf, outRowOf, RowWritten, ReadAs}
-use Rattle.row.proofs.Steps.{both}
 
 pub length-all : (vs : List ℕ) → length (bytesAll vs) ≡ sizeAll vs
 unfolding bytesAll sizeAll
@@ -32,7 +31,7 @@ pub peel : (s : List ℕ) (at v : ℕ) (vs : List ℕ) → inRange (v ∷ vs) �
     → (numberAt s at ≡ Is v (at + sizeOf v)) × (inRange vs ≡ true) × Stands s (at + sizeOf v) (bytesAll vs)
 unfolding bytesAll inRange
 peel s at v vs r st =
-    let b = both (leb v (2 ^ 62 - 1)) (inRange vs) r in (
+    let b = and-eq-true-iff (leb v (2 ^ 62 - 1)) (inRange vs) .0 r in (
       back s at v (omega (arith, leb-true v (2 ^ 62 - 1) (b .0))) (left (bytesOf v) (bytesAll vs) st),
       b .1,
       rw (length-bytes v) at (right (bytesOf v) (bytesAll vs) st),

@@ -1,7 +1,7 @@
 -- What is left of a row from a place on: the number there and the rest; and nothing at its end.
 -- Assumes nothing.
-use mathlib.Core.Path.{_≡_, refl, sym, _∙_}
-use mathlib.Core.Bool.{Bool, true, false, _&&_}
+use mathlib.Core.Path.{_≡_, sym, _∙_}
+use mathlib.Core.Bool.{true, _&&_, and-eq-true-iff}
 use mathlib.Core.List.{List, [], _∷_, _++_}
 use Prim.Native.Nat.{ℕ, _+_, _-_, _^_, _≤_, _<_}
 use native.Mathlib.Numerals.{add-one}
@@ -46,14 +46,10 @@ pub record Left (out₀ : List ℕ) (at : ℕ) (vs out : List ℕ) (place i : �
   pub room : at + sizeAll vs ≤ length out₀
   pub rest : sets out place (bytesAll (drop i vs)) ≡ sets out₀ at (bytesAll vs)
 
-pub both : (a b : Bool) → (a && b) ≡ true → (a ≡ true) × (b ≡ true)
-both true b e = (refl, e)
-both false b e = let z : _≡_ {A = ℕ} 0 1 = cc in absurd (omega arith)
-
 module _ (out₀ : List ℕ) (at : ℕ) (vs out : List ℕ) (place i : ℕ) (l : Left out₀ at vs out place i) (h : i < length vs) where
   -- the next number is in range and has room
   in-range : (leb (getD vs i 0) (2 ^ 62 - 1) ≡ true) × (inRange (drop (i + 1) vs) ≡ true)
-  in-range = both (leb (getD vs i 0) (2 ^ 62 - 1)) (inRange (drop (i + 1) vs)) (sym (range-step vs i h) ∙ l .range)
+  in-range = and-eq-true-iff (leb (getD vs i 0) (2 ^ 62 - 1)) (inRange (drop (i + 1) vs)) .0 (sym (range-step vs i h) ∙ l .range)
 
   low : getD vs i 0 < 2 ^ 62
   low = omega (arith, leb-true (getD vs i 0) (2 ^ 62 - 1) (in-range .0))

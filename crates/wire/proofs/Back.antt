@@ -1,13 +1,12 @@
 -- What is written reads back: where the shortest form of v stands, its first byte tells the form, and the bytes of the form are v.
 -- Assumes nothing.
 use mathlib.Core.Path.{_≡_, refl, _∙_}
-use mathlib.Core.List.{List, [], _∷_, _++_}
+use mathlib.Core.List.{List}
 use Prim.Native.Nat.{ℕ, _+_, _*_, _-_, _/_, _%_, _^_, _≤_, _<_}
 use native.Mathlib.Omega.{arith}
 use borrow.Author.Tests.{ltb-true, ltb-false}
 use lib.Dec.{ltb}
 use lib.ListN.{length, getD}
-use Rattle.answers.specs.Choice.{_⇒_∣_}
 use Rattle.answers.proofs.Choice.{holds}
 use Rattle.wire.specs.Number.{bigEndian, valuesIn, numberAt, spelled, formOf, sizeOf, bytesOf, Stands}
 use Rattle.wire.specs.declared.Number.the-variants.{Is}

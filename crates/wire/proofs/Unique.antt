@@ -1,6 +1,6 @@
 -- The contracts of `read`, `size` and `write` are firm: each is an equation of the answer, and `write`'s of the output too.
 -- Assumes nothing.
-use mathlib.Core.Path.{_≡_, sym, _∙_, ap}
+use mathlib.Core.Path.{sym, _∙_}
 use mathlib.Core.List.{List}
 use Prim.Native.Nat.{ℕ}
 use denote.Ref.{now}

@@ -1,7 +1,6 @@
 -- What writing a number answers and leaves: above 2^62-1 is 109, then too little room 108 (document 01, "Answer numbers").
 use mathlib.Core.Path.{_≡_}
 use Prim.Native.Nat.{ℕ, _+_, _-_, _^_, _≤_, _<_}
-use mathlib.Core.Bool.{Bool}
 use mathlib.Core.List.{List}
 use lib.ListN.{length}
 use lib.Seq.{sets}

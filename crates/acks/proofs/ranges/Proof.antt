@@ -1,7 +1,7 @@
 -- `acks::ranges` meets its contract: each turn takes the next run, and what is written with what is to come stays all of the ranges.
 -- Assumes nothing.
 use mathlib.Core.Path.{_≡_, sym, _∙_}
-use Prim.Native.Nat.{ℕ, _-_, _+_, _≤_}
+use Prim.Native.Nat.{ℕ, _-_}
 use native.Mathlib.Omega.{arith}
 use borrow.Author.Needs.{needs}
 use Rattle.records.specs.Marks.{recorded}

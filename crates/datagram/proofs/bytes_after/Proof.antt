@@ -1,7 +1,7 @@
 -- `datagram::bytes_after` meets its contract: the tests are those of `bytesAfter`, with the sum taken apart so that it cannot wrap.
 -- Assumes nothing.
 use borrow.Author.Needs.{needs}
-use mathlib.Core.Path.{sym, _∙_}
+use mathlib.Core.Path.{sym}
 use native.Mathlib.Omega.{arith}
 use Rattle.datagram.proofs.Cases.{are, cut}
 use Rattle.datagram.specs.Split.{bytesAfter}

@@ -1,7 +1,6 @@
 -- `datagram::id_at` meets its contract: the length is a plain byte, if it is there.
 -- Assumes nothing.
 use borrow.Author.Needs.{needs}
-use mathlib.Core.Path.{sym, _∙_}
 use native.Mathlib.Omega.{arith}
 use Rattle.wire.proofs.Forms.{cut, plain-byte}
 use Rattle.datagram.specs.Split.{bytesAfter}

@@ -2,8 +2,6 @@
 -- Assumes nothing.
 use borrow.Author.Needs.{needs}
 use mathlib.Core.Path.{sym, _∙_}
-use native.Mathlib.Omega.{arith}
-use borrow.Author.Tests.{lt-ltb, le-ltb, eq-eqb, ne-eqb}
 use Rattle.datagram.proofs.Cases.{counted}
 use Rattle.datagram.specs.Split.{initialOf}
 use Rattle.datagram.proofs.initial.Statement.{statement}

@@ -2,7 +2,7 @@
 -- Assumes nothing.
 use borrow.Author.Needs.{needs}
 use mathlib.Core.Path.{sym, _∙_}
-use borrow.Author.Tests.{lt-ltb, le-ltb, eq-eqb, ne-eqb}
+use borrow.Author.Tests.{eq-eqb, ne-eqb}
 use Rattle.datagram.proofs.Cases.{ordered}
 use Rattle.datagram.specs.Split.{longOf}
 use Rattle.datagram.proofs.long.Statement.{statement}

@@ -1,7 +1,7 @@
 -- `datagram::negotiation` meets its contract: its two tests are those of the definition.
 -- Assumes nothing.
 use borrow.Author.Needs.{needs}
-use borrow.Author.Tests.{lt-ltb, le-ltb, eq-eqb, ne-eqb}
+use borrow.Author.Tests.{eq-eqb, ne-eqb}
 use Rattle.datagram.specs.Split.{negotiationOf}
 use Rattle.datagram.proofs.negotiation.Statement.{statement}
 use Rattle.datagram.proofs.negotiation.Tie as tie

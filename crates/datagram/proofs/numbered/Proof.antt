@@ -3,7 +3,7 @@
 use borrow.Author.Needs.{needs}
 use mathlib.Core.Path.{sym, _∙_}
 use native.Mathlib.Omega.{arith}
-use borrow.Author.Tests.{lt-ltb, le-ltb, eq-eqb, ne-eqb}
+use borrow.Author.Tests.{lt-ltb, le-ltb}
 use Rattle.datagram.proofs.Cases.{counted}
 use Rattle.datagram.specs.Split.{numberedOf}
 use Rattle.datagram.proofs.numbered.Statement.{statement}
@@ -16,7 +16,7 @@ returns c = rw (← c .before .before .before .read .ensures, sym (c .before .be
 returns-2 : tie.Need-returns-2
 unfolding numberedOf
 returns-2 c = let r = c .before .before .before .before .before in
-    rw (← r .before .read .ensures, sym (r .bytes-after .ensures) ∙ c .before .before .before .counted .given .1, lt-ltb _ _ (c .if1 .taken))
+    rw (← r .before .read .ensures, sym (r .bytes-after .ensures) ∙ c .before .before .before .counted .given .1, lt-ltb (c .before .before .before .counted .given .0 .0 .len) 20 (omega arith))
 
 add-end : tie.Need-add-end
 add-end c = let r = c .before .before .before .before .before .before in omega (arith, counted _ _ (sym (r .bytes-after .ensures) ∙ c .before .before .before .before .counted .given .1) .within)
@@ -24,7 +24,7 @@ add-end c = let r = c .before .before .before .before .before .before in omega (
 returns-3 : tie.Need-returns-3
 unfolding numberedOf
 returns-3 c = let r = c .before .before .before .before .before .before in
-    rw (← r .before .read .ensures, sym (r .bytes-after .ensures) ∙ c .before .before .before .before .counted .given .1, le-ltb _ _ (c .before .if1 .left))
+    rw (← r .before .read .ensures, sym (r .bytes-after .ensures) ∙ c .before .before .before .before .counted .given .1, le-ltb (c .before .before .before .before .counted .given .0 .0 .len) 20 (omega arith))
 
 pub numbered-spec : {M : Type 1} → statement M
 numbered-spec =

@@ -1,7 +1,7 @@
 -- `datagram::retry` meets its contract: its test is that of the definition.
 -- Assumes nothing.
 use borrow.Author.Needs.{needs}
-use borrow.Author.Tests.{lt-ltb, le-ltb, eq-eqb, ne-eqb}
+use borrow.Author.Tests.{lt-ltb, le-ltb}
 use Rattle.datagram.specs.Split.{retryOf}
 use Rattle.datagram.proofs.retry.Statement.{statement}
 use Rattle.datagram.proofs.retry.Tie as tie

@@ -1,12 +1,13 @@
 -- `records::clean` meets its contract: no bit from the top up to `at` is set, and a word that is not blank from there on has one.
 -- Assumes nothing.
+use mathlib.Core.Bool.{true≢false}
 use borrow.Author.Tests.{not-true, not-false}
 use native.Mathlib.Omega.{arith}
 use mathlib.Core.Path.{_≡_, sym}
 use Prim.Native.Nat.{ℕ, _-_, _≤_, _<_}
 use Rattle.answers.proofs.Choice.{below-or-not}
 use Rattle.records.specs.Marks.{bitAt}
-use Rattle.records.proofs.Sound.{clean-word, word-clean, different}
+use Rattle.records.proofs.Sound.{clean-word, word-clean}
 use Rattle.records.proofs.clean.Statement.{statement}
 use Rattle.records.proofs.clean.Tie as tie
 
@@ -23,7 +24,7 @@ returns : tie.Need-returns Inv-loop μ-loop
 returns c =
     let at = c .before .before .before .before .loop .at in
     record {
-      holds = λ e. absurd (different (sym e));
+      holds = λ e. absurd (true≢false (sym e));
       fails = λ e k. c .before .blank .ensures .fails (not-true _ (c .if1 .taken)) (word-clean _ at (omega arith) (λ m a b. k m (omega arith) b));
     }
 
@@ -33,7 +34,7 @@ loop-again c =
     (omega arith, λ m a b d. below-or-not m (l .at) (λ p. l .inv .1 m a p d) (λ p. clean-word _ (l .at) (c .before .blank .ensures .holds (not-false _ (c .if1 .left))) m p d b))
 
 returns-2 : tie.Need-returns-2 Inv-loop μ-loop
-returns-2 c = record { holds = λ e m a b. c .before .loop .inv .1 m a (omega arith) b; fails = λ e. absurd (different e) }
+returns-2 c = record { holds = λ e m a b. c .before .loop .inv .1 m a (omega arith) b; fails = λ e. absurd (true≢false e) }
 
 pub clean-spec : {M : Type 1} → statement M
 clean-spec =

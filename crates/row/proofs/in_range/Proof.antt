@@ -1,11 +1,12 @@
 -- `row::in_range` meets its contract: whether all are in range is whether those from the place on are, and each turn takes one off.
 -- Assumes nothing.
-use mathlib.Core.Path.{_≡_, sym, _∙_}
-use Prim.Native.Nat.{ℕ, _≤_, _-_}
+use mathlib.Core.Path.{_≡_, _∙_}
+use Prim.Native.Nat.{_≤_, _-_, _^_}
 use native.Mathlib.Omega.{arith}
 use borrow.Author.Needs.{needs}
 use borrow.Author.Tests.{le-leb, lt-leb}
-use lib.ListN.{length, drop}
+use lib.ListN.{length, getD, drop}
+use denote.Ref.{now}
 use Rattle.row.specs.Row.{inRange}
 use Rattle.row.proofs.Steps.{range-step, ended}
 use Rattle.row.proofs.in_range.Statement.{statement}
@@ -20,12 +21,12 @@ abbrev μ-loop : tie.MeasureT-loop
 returns : tie.Need-returns Inv-loop μ-loop
 returns c =
     let l = c .before .before .before in
-    rw (l .loop .inv .1, range-step _ _ (c .before .before .loop-test .taken), lt-leb _ _ (c .if1 .taken))
+    rw (l .loop .inv .1, range-step _ _ (c .before .before .loop-test .taken), lt-leb (getD (now (l .before .args .numbers)) (l .loop .i) 0) (2 ^ 62 - 1) (omega arith))
 
 loop-again : tie.Need-loop-again Inv-loop μ-loop
 loop-again c =
     let l = c .before .before .before in
-    (search needs, l .loop .inv .1 ∙ range-step _ _ (c .before .before .loop-test .taken) ∙ rw (le-leb _ _ (c .if1 .left)))
+    (search needs, l .loop .inv .1 ∙ range-step _ _ (c .before .before .loop-test .taken) ∙ rw (le-leb (getD (now (l .before .args .numbers)) (l .loop .i) 0) (2 ^ 62 - 1) (omega arith)))
 
 returns-2 : tie.Need-returns-2 Inv-loop μ-loop
 unfolding inRange

@@ -1,14 +1,9 @@
 -- `row::put` meets its contract: writing those from the place on is writing all, and each turn writes one, for which there is room.
 -- Assumes nothing.
-use mathlib.Core.Path.{_≡_, refl, sym, _∙_}
-use mathlib.Core.Bool.{true}
-use Prim.Native.Nat.{ℕ, _≤_, _-_, _+_}
-use native.Mathlib.Omega.{arith}
+use mathlib.Core.Path.{refl, sym, _∙_}
+use Prim.Native.Nat.{_-_}
 use borrow.Author.Needs.{needs}
-use lib.ListN.{length, getD, drop}
-use lib.Seq.{sets}
-use denote.Ref.{now}
-use Rattle.row.specs.Row.{inRange, sizeAll, bytesAll}
+use lib.ListN.{length}
 use Rattle.row.proofs.Steps.{Left, turn, finished, unrefused}
 use Rattle.row.proofs.put.Statement.{statement}
 use Rattle.row.proofs.put.Tie as tie

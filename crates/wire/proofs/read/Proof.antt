@@ -6,7 +6,7 @@ use native.Mathlib.Omega.{arith}
 use denote.Ref.{now}
 use Rattle.wire.proofs.BigEndian.{join}
 use Rattle.wire.proofs.Forms.{by-form, there, form-byte, cut, past}
-use Rattle.wire.specs.Number.{valuesIn, bigEndian}
+use Rattle.wire.specs.Number.{valuesIn}
 use Rattle.wire.proofs.read.Statement.{statement}
 use Rattle.wire.proofs.read.Tie as tie
 

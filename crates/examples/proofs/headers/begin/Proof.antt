@@ -3,8 +3,6 @@
 use mathlib.Core.Path.{_≡_}
 use Prim.Native.Nat.{_-_}
 use borrow.Author.Needs.{needs}
-use borrow.Author.Tests.{ltb-true}
-use native.Mathlib.Omega.{arith}
 use lib.ListN.{length, length-set}
 use Rattle.examples.proofs.headers.begin.Statement.{statement}
 use Rattle.examples.proofs.headers.begin.Tie as tie
