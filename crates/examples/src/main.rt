@@ -1,4 +1,5 @@
 // The worked examples of RFC 9000 and RFC 9001, run, each beside what the standard says.
+mod edges;
 mod headers;
 mod marks;
 mod on_wire;
@@ -12,6 +13,9 @@ fn main() {
     print::text(b"\nRFC 9001, A.2 to A.5");
     headers::initials();
     headers::others();
+    print::text(b"\nthe borders of the packet forms");
+    edges::long();
+    edges::short();
     packets::run();
     marks::jumps();
     marks::acknowledgements();
