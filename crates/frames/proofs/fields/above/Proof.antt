@@ -1,0 +1,21 @@
+-- `frames::fields::above` meets its contract: a length above 2^62-1 is an end above it, and for any other the difference tells.
+-- Assumes nothing.
+use native.Mathlib.Omega.{arith}
+use borrow.Author.Tests.{lt-ltb, le-ltb}
+use Prim.Native.Nat.{_+_, _-_, _^_}
+use Rattle.answers.proofs.Choice.{below-or-not}
+use Rattle.frames.specs.Fields.{aboveOf}
+use Rattle.frames.proofs.fields.above.Statement.{statement}
+use Rattle.frames.proofs.fields.above.Tie as tie
+
+pub above-spec : {M : Type 1} → statement M
+unfolding aboveOf
+above-spec =
+    tie.close
+    (tie.spec
+    (λ c. let a = c .before .args in rw (lt-ltb (2 ^ 62 - 1) (a .offset + a .len) (omega arith)))
+    (λ c.
+    let a = c .before .args in
+    below-or-not (2 ^ 62 - 1 - a .len) (a .offset)
+    (λ h. rw (lt-ltb _ _ h, lt-ltb (2 ^ 62 - 1) (a .offset + a .len) (omega arith)))
+    (λ h. rw (le-ltb _ _ h, le-ltb (2 ^ 62 - 1) (a .offset + a .len) (omega arith)))))

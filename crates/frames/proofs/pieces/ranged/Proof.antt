@@ -1,0 +1,20 @@
+-- `frames::pieces::ranged` meets its contract: its test and the ranges are those of the definition.
+-- Assumes nothing.
+use mathlib.Core.Path.{refl, sym, _∙_}
+use borrow.Author.Tests.{lt-ltb, le-ltb}
+use Rattle.frames.specs.Body.{rangedAt}
+use borrow.Author.Needs.{needs}
+use Rattle.frames.proofs.pieces.ranged.Statement.{statement}
+use Rattle.frames.proofs.pieces.ranged.Tie as tie
+
+pub ranged-spec : {M : Type 1} → statement M
+unfolding rangedAt
+ranged-spec =
+    tie.close
+    (tie.spec
+    (λ c. rw (lt-ltb _ _ (c .if1 .taken)))
+    (λ c κs. search needs)
+    (λ c. search needs)
+    (λ c. search needs)
+    (λ c. rw (le-ltb _ _ (c .before .before .before .if1 .left), sym (c .before .before .all .ensures) ∙ c .enum-told .given .1))
+    (λ c. rw (le-ltb _ _ (c .before .before .before .before .if1 .left), sym (c .before .before .before .all .ensures) ∙ c .before .next .given .1)))

@@ -1,0 +1,47 @@
+-- Which frames a packet may carry to a server, RFC 9000 Table 3 with document 01's words: the one place where admission is ruled.
+use Prim.Native.Nat.{ℕ}
+use mathlib.Core.Bool.{Bool, true, false}
+use lib.Dec.{eqb}
+use Rattle.answers.specs.Choice.{_⇒_∣_}
+use Rattle.frames.specs.declared.Kind.{Kind}
+use Rattle.frames.specs.declared.Kind.the-variants.{Initial, Handshake, ZeroRtt, OneRtt}
+
+-- in all kinds but 0-RTT
+abbrev pub exceptEarly : Kind → Bool
+exceptEarly Initial = true
+exceptEarly Handshake = true
+exceptEarly ZeroRtt = false
+exceptEarly OneRtt = true
+
+-- in 1-RTT
+abbrev pub onlyOneRtt : Kind → Bool
+onlyOneRtt Initial = false
+onlyOneRtt Handshake = false
+onlyOneRtt ZeroRtt = false
+onlyOneRtt OneRtt = true
+
+-- in 0-RTT and 1-RTT
+abbrev pub earlyOrOneRtt : Kind → Bool
+earlyOrOneRtt Initial = false
+earlyOrOneRtt Handshake = false
+earlyOrOneRtt ZeroRtt = true
+earlyOrOneRtt OneRtt = true
+
+-- whether a packet of this kind may carry a frame of this type
+unfoldable pub admitted : Kind → ℕ → Bool
+admitted kind ty =
+    -- PADDING, PING and CONNECTION_CLOSE 0x1c in all four kinds
+    eqb ty 0x00 ⇒ true
+    ∣ eqb ty 0x01 ⇒ true
+    ∣ eqb ty 0x1c ⇒ true
+    -- ACK and CRYPTO in all but 0-RTT
+    ∣ eqb ty 0x02 ⇒ exceptEarly kind
+    ∣ eqb ty 0x03 ⇒ exceptEarly kind
+    ∣ eqb ty 0x06 ⇒ exceptEarly kind
+    -- PATH_RESPONSE in 1-RTT
+    ∣ eqb ty 0x1b ⇒ onlyOneRtt kind
+    -- NEW_TOKEN and HANDSHAKE_DONE are never admitted at a server
+    ∣ eqb ty 0x07 ⇒ false
+    ∣ eqb ty 0x1e ⇒ false
+    -- all others in 0-RTT and 1-RTT
+    ∣ earlyOrOneRtt kind

@@ -1,0 +1,85 @@
+-- The fields of a frame of a known type: read by its layout, refused with 7 where document 01 says so, and put together.
+use Prim.Native.Nat.{ℕ, _+_, _-_, _/_, _%_, _^_}
+use mathlib.Core.Bool.{Bool, true, false}
+use mathlib.Core.List.{List}
+use lib.Dec.{ltb, eqb}
+use Rattle.answers.specs.Choice.{_⇒_∣_}
+use Rattle.answers.specs.declared.Answer.the-variants.{FrameEncoding}
+use Rattle.frames.specs.Layout.{layoutOf}
+use Rattle.frames.specs.Body.{numbersAt, withNumbers, bodyAt, withBody}
+use Rattle.frames.specs.declared.Parts.{Parts}
+use Rattle.frames.specs.declared.Frame.{Frame}
+use Rattle.frames.specs.declared.Frame.the-variants.{Padding, Ping, Ack, AckEcn, ResetStream, StopSending, Crypto, NewToken, Stream, MaxData, MaxStreamData, MaxStreams, DataBlocked, StreamDataBlocked, StreamsBlocked, NewConnectionId, RetireConnectionId, PathChallenge, PathResponse, ConnectionClose, ApplicationClose, HandshakeDone}
+use Rattle.frames.specs.declared.Reading.{Reading}
+use Rattle.frames.specs.declared.Reading.the-variants.{Got, Refused}
+
+-- an end above 2^62-1
+unfoldable pub aboveOf : ℕ → ℕ → Bool
+aboveOf offset len = ltb (2 ^ 62 - 1) (offset + len)
+
+-- more streams of a type than 2^60
+unfoldable pub tooMany : ℕ → Bool
+tooMany n = ltb (2 ^ 60) n
+
+-- a connection ID with a length outside 1 to 20, or Retire Prior To above the sequence number
+unfoldable pub misissuedOf : ℕ → ℕ → ℕ → Bool
+misissuedOf sequence retire len =
+    ltb len 1 ⇒ true
+    ∣ ltb 20 len ⇒ true
+    ∣ ltb sequence retire
+
+-- document 01, "Fields that give 7", by the type, its first two numbers and the length of its bytes; an ACK's runs are judged where they are read
+unfoldable pub faultOf : ℕ → ℕ → ℕ → ℕ → Bool
+faultOf ty a b len =
+    -- STREAM (0x08 to 0x0f) and CRYPTO: offset plus length above 2^62-1
+    eqb (ty / 8) 1 ⇒ aboveOf b len
+    ∣ eqb ty 0x06 ⇒ aboveOf a len
+    -- an empty NEW_TOKEN token
+    ∣ eqb ty 0x07 ⇒ eqb len 0
+    -- MAX_STREAMS and STREAMS_BLOCKED above 2^60
+    ∣ eqb ty 0x12 ⇒ tooMany a
+    ∣ eqb ty 0x13 ⇒ tooMany a
+    ∣ eqb ty 0x16 ⇒ tooMany a
+    ∣ eqb ty 0x17 ⇒ tooMany a
+    -- NEW_CONNECTION_ID
+    ∣ eqb ty 0x18 ⇒ misissuedOf a b len
+    ∣ false
+
+-- the frame of a type, with the names that its figure gives to the numbers
+unfoldable pub frameOf : Parts → Frame
+frameOf p =
+    eqb (p .ty / 8) 1 ⇒ Stream (p .a) (p .b) (eqb (p .ty % 2) 1) (p .at) (p .len)
+    ∣ eqb (p .ty) 0x00 ⇒ Padding
+    ∣ eqb (p .ty) 0x01 ⇒ Ping
+    ∣ eqb (p .ty) 0x02 ⇒ Ack (p .a) (p .b) (p .c) (p .d) (p .at)
+    ∣ eqb (p .ty) 0x03 ⇒ AckEcn (p .a) (p .b) (p .c) (p .d) (p .at) (p .x) (p .y) (p .z)
+    ∣ eqb (p .ty) 0x04 ⇒ ResetStream (p .a) (p .b) (p .c)
+    ∣ eqb (p .ty) 0x05 ⇒ StopSending (p .a) (p .b)
+    ∣ eqb (p .ty) 0x06 ⇒ Crypto (p .a) (p .at) (p .len)
+    ∣ eqb (p .ty) 0x07 ⇒ NewToken (p .at) (p .len)
+    ∣ eqb (p .ty) 0x10 ⇒ MaxData (p .a)
+    ∣ eqb (p .ty) 0x11 ⇒ MaxStreamData (p .a) (p .b)
+    ∣ eqb (p .ty) 0x12 ⇒ MaxStreams false (p .a)
+    ∣ eqb (p .ty) 0x13 ⇒ MaxStreams true (p .a)
+    ∣ eqb (p .ty) 0x14 ⇒ DataBlocked (p .a)
+    ∣ eqb (p .ty) 0x15 ⇒ StreamDataBlocked (p .a) (p .b)
+    ∣ eqb (p .ty) 0x16 ⇒ StreamsBlocked false (p .a)
+    ∣ eqb (p .ty) 0x17 ⇒ StreamsBlocked true (p .a)
+    ∣ eqb (p .ty) 0x18 ⇒ NewConnectionId (p .a) (p .b) (p .at) (p .len) (p .token)
+    ∣ eqb (p .ty) 0x19 ⇒ RetireConnectionId (p .a)
+    ∣ eqb (p .ty) 0x1a ⇒ PathChallenge (p .at)
+    ∣ eqb (p .ty) 0x1b ⇒ PathResponse (p .at)
+    ∣ eqb (p .ty) 0x1c ⇒ ConnectionClose (p .a) (p .b) (p .at) (p .len)
+    ∣ eqb (p .ty) 0x1d ⇒ ApplicationClose (p .a) (p .at) (p .len)
+    ∣ HandshakeDone
+
+-- the fields at a place
+unfoldable pub fieldsAt : List ℕ → ℕ → ℕ → Reading
+fieldsAt s at ty =
+    let l = layoutOf ty in
+    let none = Refused FrameEncoding ty in
+    withNumbers (numbersAt s at (l .numbers)) none (λ a b c d p.
+    withBody (bodyAt s p (l .tail) a c d) none (λ start len token q.
+    withNumbers (numbersAt s q (l .after)) none (λ x y z rest next.
+    faultOf ty a b len ⇒ none
+    ∣ Got (frameOf (record { ty = ty; a = a; b = b; c = c; d = d; at = start; len = len; token = token; x = x; y = y; z = z })) ty next)))

@@ -1,0 +1,54 @@
+// Which frames a packet of a kind may carry to a server (RFC 9000, 12.4, Table 3).
+ghost use mathlib.Core.Path.{_≡_};
+ghost use Rattle.frames.specs.Admission.{exceptEarly, onlyOneRtt, earlyOrOneRtt, admitted};
+use crate::Kind;
+
+fn except_early(kind: Kind) -> bool
+    ensures { λ r. ⌜ r ≡ exceptEarly kind ⌝ }
+{
+    match kind {
+        Kind::Initial => true,
+        Kind::Handshake => true,
+        Kind::ZeroRtt => false,
+        Kind::OneRtt => true,
+    }
+}
+
+fn only_one_rtt(kind: Kind) -> bool
+    ensures { λ r. ⌜ r ≡ onlyOneRtt kind ⌝ }
+{
+    match kind {
+        Kind::Initial => false,
+        Kind::Handshake => false,
+        Kind::ZeroRtt => false,
+        Kind::OneRtt => true,
+    }
+}
+
+fn early_or_one_rtt(kind: Kind) -> bool
+    ensures { λ r. ⌜ r ≡ earlyOrOneRtt kind ⌝ }
+{
+    match kind {
+        Kind::Initial => false,
+        Kind::Handshake => false,
+        Kind::ZeroRtt => true,
+        Kind::OneRtt => true,
+    }
+}
+
+pub fn admits(kind: Kind, ty: u64) -> bool
+    ensures { λ r. ⌜ r ≡ admitted kind ty ⌝ }
+{
+    match ty {
+        0 => true,
+        1 => true,
+        2 => except_early(kind),
+        3 => except_early(kind),
+        6 => except_early(kind),
+        7 => false,
+        27 => only_one_rtt(kind),
+        28 => true,
+        30 => false,
+        _ => early_or_one_rtt(kind),
+    }
+}
