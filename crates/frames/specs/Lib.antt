@@ -1,5 +1,6 @@
 pub mod Layout
 pub mod Admission
 pub mod Body
+pub mod Faults
 pub mod Fields
 pub mod Reading

@@ -1,59 +1,15 @@
-// The fields of a frame whose type is known: read, judged, and put together.
+// The fields of a frame whose type is known: read by its layout, judged, and put together.
 ghost use mathlib.Core.Path.{_≡_};
-ghost use Rattle.frames.specs.Fields.{aboveOf, misissuedOf, faultOf, frameOf, fieldsAt};
+ghost use Rattle.frames.specs.Fields.{frameOf, fieldsAt};
 use crate::Body;
 use crate::Frame;
 use crate::Numbers;
 use crate::Parts;
 use crate::Reading;
 use crate::pieces;
+use crate::rules;
 use crate::table;
 use answers::Answer;
-
-// The most streams of a type: 2^60.
-const MOST_STREAMS: u64 = 1152921504606846976;
-
-// Whether an end is above 2^62-1.
-fn above(offset: u64, len: u64) -> bool
-    ensures { λ r. ⌜ r ≡ aboveOf offset len ⌝ }
-{
-    if wire::MOST < len {
-        return true;
-    }
-    wire::MOST - len < offset
-}
-
-// Whether a connection ID has a length outside 1 to 20, or its frame retires a number above its own.
-fn misissued(sequence: u64, retire: u64, len: u64) -> bool
-    ensures { λ r. ⌜ r ≡ misissuedOf sequence retire len ⌝ }
-{
-    if len < 1 {
-        return true;
-    }
-    if 20 < len {
-        return true;
-    }
-    sequence < retire
-}
-
-// Whether no frame of the type may have these fields.
-pub fn fault(ty: u64, a: u64, b: u64, len: u64) -> bool
-    ensures { λ r. ⌜ r ≡ faultOf ty a b len ⌝ }
-{
-    if ty / 8 == 1 {
-        return above(b, len);
-    }
-    match ty {
-        6 => above(a, len),
-        7 => len == 0,
-        18 => MOST_STREAMS < a,
-        19 => MOST_STREAMS < a,
-        22 => MOST_STREAMS < a,
-        23 => MOST_STREAMS < a,
-        24 => misissued(a, b, len),
-        _ => false,
-    }
-}
 
 // The frame that is put together from its parts.
 fn together(p: Parts) -> Frame
@@ -199,7 +155,7 @@ pub fn read(s: &[u8], at: usize, ty: u64) -> Reading
             ty,
         };
     };
-    if fault(ty, a, b, len as u64) {
+    if rules::fault(ty, a, b, len as u64) {
         return Reading::Refused {
             answer: Answer::FrameEncoding,
             ty,

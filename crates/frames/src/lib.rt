@@ -2,7 +2,8 @@
 mod admission;
 mod fields;
 mod pieces;
-mod table;
+pub mod rules;
+pub mod table;
 
 ghost use mathlib.Core.Path.{_≡_};
 ghost use Rattle.frames.specs.Reading.{headAt, frameAt, anyFrameAt};

@@ -1,12 +1,12 @@
--- `frames::fields::above` meets its contract: a length above 2^62-1 is an end above it, and for any other the difference tells.
+-- `frames::rules::above` meets its contract: a length above 2^62-1 is an end above it, and for any other the difference tells.
 -- Assumes nothing.
 use native.Mathlib.Omega.{arith}
 use borrow.Author.Tests.{lt-ltb, le-ltb}
 use Prim.Native.Nat.{_+_, _-_, _^_}
 use Rattle.answers.proofs.Choice.{below-or-not}
-use Rattle.frames.specs.Fields.{aboveOf}
-use Rattle.frames.proofs.fields.above.Statement.{statement}
-use Rattle.frames.proofs.fields.above.Tie as tie
+use Rattle.frames.specs.Faults.{aboveOf}
+use Rattle.frames.proofs.rules.above.Statement.{statement}
+use Rattle.frames.proofs.rules.above.Tie as tie
 
 pub above-spec : {M : Type 1} → statement M
 unfolding aboveOf

@@ -1,10 +1,10 @@
--- `frames::fields::misissued` meets its contract: its tests are the definition's, in the same order.
+-- `frames::rules::misissued` meets its contract: its tests are the definition's, in the same order.
 -- Assumes nothing.
 use borrow.Author.Tests.{lt-ltb, le-ltb}
 use native.Mathlib.Omega.{arith}
-use Rattle.frames.specs.Fields.{misissuedOf}
-use Rattle.frames.proofs.fields.misissued.Statement.{statement}
-use Rattle.frames.proofs.fields.misissued.Tie as tie
+use Rattle.frames.specs.Faults.{misissuedOf}
+use Rattle.frames.proofs.rules.misissued.Statement.{statement}
+use Rattle.frames.proofs.rules.misissued.Tie as tie
 
 pub misissued-spec : {M : Type 1} → statement M
 unfolding misissuedOf

@@ -1,11 +1,11 @@
--- `frames::fields::fault` meets its contract: each key of the match is the first test of the definition that holds, and the last arm is left by all of them.
+-- `frames::rules::fault` meets its contract: each key of the match is the first test of the definition that holds, and the last arm is left by all of them.
 -- Assumes nothing.
 use borrow.Author.Tests.{eq-eqb, ne-eqb}
 use mathlib.Core.Path.{refl, sym, _∙_}
-use Rattle.frames.specs.Fields.{tooMany, faultOf}
+use Rattle.frames.specs.Faults.{tooMany, faultOf}
 use borrow.Author.Needs.{needs}
-use Rattle.frames.proofs.fields.fault.Statement.{statement}
-use Rattle.frames.proofs.fields.fault.Tie as tie
+use Rattle.frames.proofs.rules.fault.Statement.{statement}
+use Rattle.frames.proofs.rules.fault.Tie as tie
 
 pub fault-spec : {M : Type 1} → statement M
 unfolding tooMany faultOf
