@@ -1,1 +1,5 @@
 pub mod Places
+pub mod Going
+pub mod Sound
+pub mod Order
+pub mod Unique

@@ -4,3 +4,4 @@ pub mod Body
 pub mod Faults
 pub mod Fields
 pub mod Reading
+pub mod Sound

@@ -1,6 +1,6 @@
 -- One frame at a place of a payload, document 01, "For a frame": type readable (7), shortest (10), known (7), admitted in this packet kind (10), fields (7).
 use Prim.Native.Nat.{ℕ}
-use mathlib.Core.Bool.{Bool, true, not}
+use mathlib.Core.Bool.{not}
 use mathlib.Core.List.{List}
 use Rattle.answers.specs.Choice.{_⇒_∣_}
 use Rattle.answers.specs.declared.Answer.the-variants.{FrameEncoding, ProtocolViolation}
@@ -12,7 +12,7 @@ use Rattle.frames.specs.declared.Kind.{Kind}
 use Rattle.frames.specs.declared.Head.{Head}
 use Rattle.frames.specs.declared.Head.the-variants as Head'
 use Rattle.frames.specs.declared.Reading.{Reading}
-use Rattle.frames.specs.declared.Reading.the-variants.{Got, Refused}
+use Rattle.frames.specs.declared.Reading.the-variants.{Refused}
 
 -- the type of a frame: readable, in its shortest form, and known
 unfoldable pub headAt : List ℕ → ℕ → Head

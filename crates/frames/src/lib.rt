@@ -164,7 +164,7 @@ pub struct Layout {
 }
 
 // Four numbers, those that are not there 0, and the place after them.
-enum Numbers {
+pub enum Numbers {
     Are {
         a: u64,
         b: u64,
@@ -176,7 +176,7 @@ enum Numbers {
 }
 
 // The places of a tail's bytes, those that it does not have 0, and the place after it.
-enum Body {
+pub enum Body {
     Is {
         at: usize,
         len: usize,
@@ -187,7 +187,7 @@ enum Body {
 }
 
 // A frame's type and the place after it, or why there is none.
-enum Head {
+pub enum Head {
     Type { ty: u64, next: usize },
     Refused { answer: Answer, ty: u64 },
 }

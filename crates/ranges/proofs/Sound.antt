@@ -11,10 +11,11 @@ use Rattle.answers.proofs.Choice.{holds}
 use Rattle.wire.specs.Number.{numberAt}
 use Rattle.wire.specs.declared.Number.the-variants.{Is}
 use Rattle.wire.proofs.Sound as number
-use Rattle.ranges.specs.Ranges.{belowOf, rangeAt, rangesAt, withRange}
+use Rattle.ranges.specs.Ranges.{belowOf, rangeAt, rangesAt, withRange, withRanges}
 use Rattle.ranges.specs.Walk.{stepOf, Readable, Stepped}
 use Rattle.ranges.specs.declared.Range.{Range}
 use Rattle.ranges.specs.declared.Range.the-variants.{Wrong}
+use Rattle.ranges.specs.declared.Ranges.{Ranges}
 use Rattle.ranges.specs.declared.Ranges.the-variants.{To, Broken}
 use Rattle.ranges.specs.declared.Walk.{Walk}
 use Rattle.ranges.specs.declared.Step.the-variants.{End}
@@ -57,6 +58,11 @@ sound s (suc k) at low {n} e h =
     let b = number.sound s (t .1) (r .len-read) in
     let i = sound s k (t .3) (low - t .0 - 2 - t .2) (r .rest) (b .within) in
     (omega (arith, i .0, a .above, b .above), i .1)
+
+-- what holds where a range is wrong and wherever all were read holds of what goes on with them
+pub with-ranges : {X : Type 0} (P : X → Type 0) (r : Ranges) (x : X) (k : ℕ → X) → P x → ((n : ℕ) → r ≡ To n → P (k n)) → P (withRanges r x k)
+with-ranges P (To n) x k p q = q n refl
+with-ranges P Broken x k p q = p
 
 -- while a range is left, the step finds it
 pub walks : (s : List ℕ) (w : Walk) (n : ℕ) → Readable s w n → 0 < w .left → (high : ℕ) × (low : ℕ) × (rest : Walk) × Stepped s w n high low rest

@@ -9,7 +9,7 @@ use answers::Answer;
 use wire::Wrote;
 
 // Whether none is above 2^62-1.
-fn in_range(numbers: &[u64]) -> bool
+pub fn in_range(numbers: &[u64]) -> bool
     ensures { λ r. ⌜ r ≡ inRange (now (numbers .entry)) ⌝ }
 {
     let mut i = 0;

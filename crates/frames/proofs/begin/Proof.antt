@@ -1,6 +1,6 @@
 -- `frames::begin` meets its contract: its tests are the definition's, in the same order: the type ends above its place, so the difference is its size.
 -- Assumes nothing.
-use mathlib.Core.Path.{refl, sym, _∙_}
+use mathlib.Core.Path.{sym, _∙_}
 use native.Mathlib.Omega.{arith}
 use Prim.Native.Nat.{_+_}
 use borrow.Author.Tests.{eq-eqb, ne-eqb, le-leb, lt-leb}

@@ -1,6 +1,6 @@
 -- `frames::read` meets its contract: it goes on with the type that the definition finds, and asks what the definition asks.
 -- Assumes nothing.
-use mathlib.Core.Path.{refl, sym, _∙_}
+use mathlib.Core.Path.{sym, _∙_}
 use borrow.Author.Tests.{not-true, not-false}
 use Rattle.frames.specs.Reading.{frameAt}
 use borrow.Author.Needs.{needs}

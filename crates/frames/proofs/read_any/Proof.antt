@@ -1,6 +1,6 @@
 -- `frames::read_any` meets its contract: it goes on with the type that the definition finds.
 -- Assumes nothing.
-use mathlib.Core.Path.{refl, sym, _∙_}
+use mathlib.Core.Path.{sym, _∙_}
 use Rattle.frames.specs.Reading.{anyFrameAt}
 use borrow.Author.Needs.{needs}
 use Rattle.frames.proofs.read_any.Statement.{statement}

@@ -1,6 +1,6 @@
 -- `frames::admission::admits` meets its contract: each key of the match is the first test of the definition that holds, and the last arm is left by all of them.
 -- Assumes nothing.
-use borrow.Author.Tests.{eq-eqb, ne-eqb}
+use borrow.Author.Tests.{ne-eqb}
 use mathlib.Core.Path.{_∙_}
 use Rattle.frames.specs.Admission.{admitted}
 use borrow.Author.Needs.{needs}

@@ -1,6 +1,6 @@
 -- `frames::pieces::counted` meets its contract: it reads the number that the definition reads, and goes on with as many bytes.
 -- Assumes nothing.
-use mathlib.Core.Path.{refl, sym, _∙_}
+use mathlib.Core.Path.{sym, _∙_}
 use Rattle.frames.specs.Body.{countedAt}
 use borrow.Author.Needs.{needs}
 use Rattle.frames.proofs.pieces.counted.Statement.{statement}

@@ -1,6 +1,6 @@
 -- `frames::pieces::four` meets its contract: it reads the numbers that the definition reads, in the same order.
 -- Assumes nothing.
-use mathlib.Core.Path.{refl, sym, _∙_}
+use mathlib.Core.Path.{sym, _∙_}
 use Rattle.frames.specs.Body.{numbersAt}
 use borrow.Author.Needs.{needs}
 use Rattle.frames.proofs.pieces.four.Statement.{statement}

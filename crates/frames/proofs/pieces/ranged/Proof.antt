@@ -1,6 +1,6 @@
 -- `frames::pieces::ranged` meets its contract: its test and the ranges are those of the definition.
 -- Assumes nothing.
-use mathlib.Core.Path.{refl, sym, _∙_}
+use mathlib.Core.Path.{sym, _∙_}
 use borrow.Author.Tests.{lt-ltb, le-ltb}
 use Rattle.frames.specs.Body.{rangedAt}
 use borrow.Author.Needs.{needs}

@@ -1,7 +1,7 @@
 -- `frames::rules::fault` meets its contract: each key of the match is the first test of the definition that holds, and the last arm is left by all of them.
 -- Assumes nothing.
 use borrow.Author.Tests.{eq-eqb, ne-eqb}
-use mathlib.Core.Path.{refl, sym, _∙_}
+use mathlib.Core.Path.{_∙_}
 use Rattle.frames.specs.Faults.{tooMany, faultOf}
 use borrow.Author.Needs.{needs}
 use Rattle.frames.proofs.rules.fault.Statement.{statement}

@@ -1,9 +1,8 @@
 -- `frames::table::find` meets its contract: the constant table is the definition's, by computation; a type behind it has the layout that the definition gives by default.
 -- Assumes nothing.
 use lib.ListN.{List·getD-eq-default}
-use mathlib.Core.Path.{sym}
+use mathlib.Core.Path.{refl, sym}
 use native.Mathlib.Omega.{arith}
-use mathlib.Core.Path.{refl}
 use Rattle.frames.specs.Layout.{layouts, layoutOf}
 use borrow.Author.Needs.{needs}
 use Rattle.frames.proofs.table.find.Statement.{statement}

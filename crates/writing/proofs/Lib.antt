@@ -1,0 +1,15 @@
+pub mod Settled
+pub mod Ones
+pub mod Taking
+pub mod Bounds
+pub mod Bodies
+pub mod Tails
+pub mod Copies
+pub mod Listing
+pub mod Spelling
+pub mod Writes
+pub mod Standing
+pub mod Found
+pub mod Back
+pub mod Readers
+pub mod Exact

@@ -1,0 +1,72 @@
+-- `writing::write` meets its contract: it asks what the definition asks, in the same order, and stores the frame's bytes where there is room for them.
+-- Assumes nothing.
+use mathlib.Core.Path.{sym, _∙_, ap}
+use native.Mathlib.Omega.{arith}
+use borrow.Author.Needs.{needs}
+use borrow.Author.Tests.{not-true, not-false}
+use Rattle.wire.specs.declared.Wrote.the-variants.{To}
+use Rattle.writing.specs.Content.{contentOf}
+use Rattle.writing.proofs.Bounds.{type-known}
+use Rattle.writing.proofs.Writes.{unwritable, no-room, all-written}
+use Rattle.writing.proofs.write.Statement.{statement}
+use Rattle.writing.proofs.write.Tie as tie
+
+returns : tie.Need-returns
+returns c =
+    let p = c .before .before in
+    let a = p .before .before .before .args in
+    rw (← p .apart .ensures) (unwritable (a .out .now) (a .at) (contentOf (a .s .now) (p .apart .result)) (sym (c .before .writable .ensures) ∙ not-true _ (c .if1 .taken)))
+
+returns-2 : tie.Need-returns-2
+returns-2 c =
+    let w = c .before .before in
+    let p = w .before in
+    let a = p .before .before .before .args in
+    rw (← p .apart .ensures) (no-room (a .out .now) (a .at) (contentOf (a .s .now) (p .apart .result)) (sym (w .writable .ensures) ∙ not-false _ (c .before .if1 .left)) (omega arith))
+
+size-requires : tie.Need-size-requires
+size-requires c κs = sym (c .before .before .writable .ensures) ∙ not-false _ (c .before .if1 .left)
+
+returns-3 : tie.Need-returns-3
+returns-3 c =
+    let z = c .before in
+    let w = z .before .before .before in
+    let p = w .before in
+    let a = p .before .before .before .args in
+    rw (← p .apart .ensures)
+    (no-room (a .out .now) (a .at) (contentOf (a .s .now) (p .apart .result)) (sym (w .writable .ensures) ∙ not-false _ (z .before .before .if1 .left)) (omega (arith, z .size .ensures)))
+
+put-requires : tie.Need-put-requires
+put-requires c κs =
+    let z = c .before .before in
+    let w = z .before .before .before in
+    let p = w .before in
+    let a = p .before .before .before .args in
+    let t = type-known (a .frame) in
+    let k = rw (← p .apart .ensures) at t in
+    (omega (arith, k), sym (w .writable .ensures) ∙ not-false _ (z .before .before .if1 .left), omega (arith, z .size .ensures))
+
+returns-4 : tie.Need-returns-4
+returns-4 c =
+    let u = c .before .before in
+    let z = u .before .before .before in
+    let w = z .before .before .before in
+    let p = w .before in
+    let a = p .before .before .before .args in
+    let d = all-written (a .out .now) (a .at) (contentOf (a .s .now) (p .apart .result)) (sym (w .writable .ensures) ∙ not-false _ (z .before .before .if1 .left)) (omega (arith, z .size .ensures)) in
+    rw (← p .apart .ensures) (ap To (u .put .ensures .0) ∙ d .0, u .put .ensures .1 ∙ d .1)
+
+pub write-spec : {M : Type 1} → statement M
+write-spec =
+    tie.close
+    (tie.spec
+    (λ c κs. search needs)
+    (λ c κs. search needs)
+    returns
+    returns-2
+    (λ c. search needs)
+    size-requires
+    returns-3
+    put-requires
+    (λ c. search needs)
+    returns-4)

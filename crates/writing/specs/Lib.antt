@@ -1,0 +1,6 @@
+pub mod Parts
+pub mod Content
+pub mod Taken
+pub mod Spelled
+pub mod Wrote
+pub mod Again

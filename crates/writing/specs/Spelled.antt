@@ -1,0 +1,52 @@
+-- The bytes of a frame: its layout filled with its contents, every number in its shortest form.
+use mathlib.Core.Path.{_≡_}
+use Prim.Native.Nat.{ℕ, _^_, _<_}
+use mathlib.Core.Bool.{Bool, true, false}
+use mathlib.Core.List.{List, [], _∷_, _++_}
+use lib.Dec.{ltb}
+use Rattle.wire.specs.Number.{bytesOf}
+use Rattle.row.specs.Row.{bytesAll}
+use Rattle.frames.specs.Layout.{layoutOf}
+use Rattle.frames.specs.declared.Parts.{Parts}
+use Rattle.frames.specs.declared.Tail.{Tail}
+use Rattle.frames.specs.declared.Tail.the-variants.{Nothing, Counted, Remainder, Eight, Identity, Ranges}
+use Rattle.writing.specs.Content.{Content, wholeOf}
+
+-- a number if it is there
+abbrev pub bytesIf : Bool → ℕ → List ℕ
+bytesIf true v = bytesOf v
+bytesIf false v = []
+
+-- the first n of four numbers
+unfoldable pub fourBytes : ℕ → ℕ → ℕ → ℕ → ℕ → List ℕ
+fourBytes n a b c d = bytesIf (ltb 0 n) a ++ (bytesIf (ltb 1 n) b ++ (bytesIf (ltb 2 n) c ++ bytesIf (ltb 3 n) d))
+
+-- what stands behind them
+abbrev pub bodyBytes : Tail → ℕ → List ℕ → List ℕ → List ℕ
+bodyBytes Nothing len body token = []
+bodyBytes Counted len body token = bytesOf len ++ body
+bodyBytes Remainder len body token = body
+bodyBytes Eight len body token = body
+bodyBytes Identity len body token = len ∷ (body ++ token)
+bodyBytes Ranges len body token = bytesAll body
+
+unfoldable pub spelledFrame : Content → List ℕ
+spelledFrame f =
+    let l = layoutOf (f .ty) in
+    bytesOf (f .ty) ++ (fourBytes (l .numbers) (f .a) (f .b) (f .c) (f .d) ++ (bodyBytes (l .tail) (f .len) (f .body) (f .token) ++ fourBytes (l .after) (f .x) (f .y) (f .z) 0))
+
+-- a connection ID's length fits into its byte
+abbrev pub InByte : Tail → ℕ → Type 0
+InByte Nothing len = Unit
+InByte Counted len = Unit
+InByte Remainder len = Unit
+InByte Eight len = Unit
+InByte Identity len = len < 256
+InByte Ranges len = Unit
+
+-- what a body must be so that it can be written: its places lie inside a slice of n bytes, and its numbers are in range
+pub record Bounded (n : ℕ) (tail : Tail) (p : Parts) : Type 0 where
+  pub whole : wholeOf n tail p ≡ true
+  pub len : p .len < 2 ^ 62
+  pub count : p .c < 2 ^ 62
+  pub byte : InByte tail (p .len)
