@@ -1,5 +1,7 @@
 // The worked examples of RFC 9000 and RFC 9001, run, each beside what the standard says.
+mod again;
 mod edges;
+mod frame_edges;
 mod headers;
 mod marks;
 mod on_wire;
@@ -19,5 +21,16 @@ fn main() {
     packets::run();
     marks::jumps();
     marks::acknowledgements();
+    print::text(b"\nevery frame, read and written again");
+    again::acknowledging();
+    again::streaming();
+    again::limiting();
+    again::connecting();
+    print::text(b"\nthe borders of the frames");
+    frame_edges::types();
+    frame_edges::numbers();
+    frame_edges::runs();
+    frame_edges::identities();
+    frame_edges::admissions();
     print::text(b"\n");
 }
