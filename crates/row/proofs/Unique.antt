@@ -1,13 +1,18 @@
--- The contract of `write` is firm: it is an equation of the answer and one of the output.
+-- The contracts of `in_range` and `write` are firm: each is an equation of the answer, and `write`'s of the output too.
 -- Assumes nothing.
 use mathlib.Core.Path.{sym, _∙_}
 use mathlib.Core.List.{List}
 use Prim.Native.Nat.{ℕ}
 use denote.Ref.{now}
-use Rattle.answers.specs.Firm.{Firm}
+use Rattle.answers.specs.Firm.{Firm, FirmAnswer}
 use Rattle.wire.specs.declared.Wrote.{Wrote}
-use Rattle.row.proofs.write.Kinds
-use Rattle.row.proofs.write.Reads
+use Rattle.row.proofs.in_range.Kinds as in-range
+use Rattle.row.proofs.in_range.Reads as ranging
+use Rattle.row.proofs.write.Kinds as write
+use Rattle.row.proofs.write.Reads as writing
 
-pub write-firm : Firm 2 Kinds.ps Kinds.r Reads.Asked Reads.Post (λ κs. Wrote × List ℕ) (λ κs x s. (x, now (s .0)))
+pub in-range-firm : FirmAnswer 1 in-range.ps in-range.r ranging.Asked ranging.Post
+in-range-firm = record { asks-nothing = λ κs a. tt; one-outcome = λ κs a x y s t p q. p ∙ sym q }
+
+pub write-firm : Firm 2 write.ps write.r writing.Asked writing.Post (λ κs. Wrote × List ℕ) (λ κs x s. (x, now (s .0)))
 write-firm = record { asks-nothing = λ κs a. tt; one-outcome = λ κs a x y s t p q. λ i. ((p .0 ∙ sym (q .0)) i, (p .1 ∙ sym (q .1)) i) }

@@ -13,3 +13,4 @@ pub mod Found
 pub mod Back
 pub mod Readers
 pub mod Exact
+pub mod Unique

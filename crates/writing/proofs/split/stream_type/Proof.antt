@@ -1,5 +1,6 @@
 -- `writing::split::stream_type` meets its contract: its tests are the definition's, and so is each arm.
 -- Assumes nothing.
+use native.Mathlib.Omega.{arith}
 use borrow.Author.Tests.{lt-ltb, le-ltb}
 use Rattle.writing.specs.Parts.{streamType}
 use Rattle.writing.proofs.split.stream_type.Statement.{statement}
@@ -10,7 +11,7 @@ unfolding streamType
 stream-type-spec =
     tie.close
     (tie.spec
-    (λ c. rw (lt-ltb _ _ (c .before .if1 .taken), c .if2 .taken))
-    (λ c. rw (lt-ltb _ _ (c .before .if1 .taken), c .if2 .left))
-    (λ c. rw (le-ltb _ _ (c .before .if1 .left), c .if3 .taken))
-    (λ c. rw (le-ltb _ _ (c .before .if1 .left), c .if3 .left)))
+    (λ c. rw (lt-ltb 0 (c .before .before .args .offset) (omega arith), c .if2 .taken))
+    (λ c. rw (lt-ltb 0 (c .before .before .args .offset) (omega arith), c .if2 .left))
+    (λ c. rw (le-ltb 0 (c .before .before .args .offset) (omega arith), c .if3 .taken))
+    (λ c. rw (le-ltb 0 (c .before .before .args .offset) (omega arith), c .if3 .left)))
