@@ -24,6 +24,15 @@ fn optional(s: &[u8], at: usize, there: bool) -> Number
 pub fn four(s: &[u8], at: usize, n: u8) -> Numbers
     ensures { λ r. ⌜ r ≡ numbersAt (now (s .entry)) at n ⌝ }
 {
+    if n == 0 {
+        return Numbers::Are {
+            a: 0,
+            b: 0,
+            c: 0,
+            d: 0,
+            next: at,
+        };
+    }
     let Number::Is { value: a, next: p } = optional(s, at, 0 < n) else {
         return Numbers::CutShort;
     };

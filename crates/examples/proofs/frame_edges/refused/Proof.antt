@@ -7,6 +7,7 @@ use Rattle.examples.proofs.frame_edges.refused.Tie as tie
 
 abbrev Inv-loop : tie.InvT-loop
 Inv-loop kind should ty₀ t5 ty = Unit
+
 abbrev μ-loop : tie.MeasureT-loop
 μ-loop kind should ty₀ t5 ty = 31 - ty
 

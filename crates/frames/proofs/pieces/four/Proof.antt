@@ -1,16 +1,17 @@
--- `frames::pieces::four` meets its contract: it reads the numbers that the definition reads, in the same order.
+-- `frames::pieces::four` meets its contract: without numbers nothing is read; else it reads the numbers that the definition reads, in the same order.
 -- Assumes nothing.
 use mathlib.Core.Path.{sym, _∙_}
-use Rattle.frames.specs.Body.{numbersAt}
+use Rattle.frames.specs.Body.{optionalAt, numbersAt}
 use borrow.Author.Needs.{needs}
 use Rattle.frames.proofs.pieces.four.Statement.{statement}
 use Rattle.frames.proofs.pieces.four.Tie as tie
 
 pub four-spec : {M : Type 1} → statement M
-unfolding numbersAt
+unfolding numbersAt optionalAt
 four-spec =
     tie.close
     (tie.spec
+    (λ c. rw (c .if1 .taken))
     (λ c κs. search needs)
     (λ c. search needs)
     (λ c. search needs)
