@@ -11,10 +11,10 @@ fn written(frame: frames::Frame, s: &[u8]) {
     }
 }
 
-// Reads the frame at the start of s, and writes it.
+// Reads the frame at the start of s, and writes it: `should` is what it should be written as.
 fn frame(s: &[u8], should: &[u8]) {
     print::bytes(b"\n", s);
-    print::text(should);
+    print::bytes(b" should be written ", should);
     match frames::read_any(s, 0) {
         Reading::Got { frame, ty, next } => {
             print::labelled(b", is type ", ty);
@@ -28,126 +28,88 @@ fn frame(s: &[u8], should: &[u8]) {
     }
 }
 
-pub fn acknowledging() {
-    frame(&[0], b" should be type 0 of 1 and be written 00");
-    frame(&[1], b" should be type 1 of 1 and be written 01");
+fn acknowledging() {
+    frame(b"\x00", b"\x00");
+    frame(b"\x01", b"\x01");
     frame(
-        &[2, 64, 5, 0, 1, 1, 64, 0, 1],
-        b" should be type 2 of 9 and be written 02050001010001",
+        b"\x02\x40\x05\x00\x01\x01\x40\x00\x01",
+        b"\x02\x05\x00\x01\x01\x00\x01",
     );
     frame(
-        &[3, 5, 0, 0, 5, 1, 2, 3],
-        b" should be type 3 of 8 and be written 0305000005010203",
-    );
-}
-
-pub fn streaming() {
-    frame(
-        &[4, 0, 7, 10],
-        b" should be type 4 of 4 and be written 0400070a",
-    );
-    frame(&[5, 4, 7], b" should be type 5 of 3 and be written 050407");
-    frame(
-        &[6, 0, 2, 97, 98],
-        b" should be type 6 of 5 and be written 0600026162",
-    );
-    frame(
-        &[7, 2, 170, 187],
-        b" should be type 7 of 4 and be written 0702aabb",
-    );
-    frame(
-        &[8, 4, 97, 98],
-        b" should be type 8 of 4 and be written 0a04026162",
-    );
-    frame(&[9, 4], b" should be type 9 of 2 and be written 0b0400");
-    frame(
-        &[10, 4, 2, 97, 98, 1],
-        b" should be type 10 of 5 and be written 0a04026162",
-    );
-    frame(
-        &[11, 4, 1, 97],
-        b" should be type 11 of 4 and be written 0b040161",
-    );
-    frame(
-        &[12, 4, 5, 97],
-        b" should be type 12 of 4 and be written 0e04050161",
-    );
-    frame(
-        &[13, 4, 5, 97],
-        b" should be type 13 of 4 and be written 0f04050161",
-    );
-    frame(
-        &[14, 4, 0, 1, 97],
-        b" should be type 14 of 5 and be written 0a040161",
-    );
-    frame(
-        &[15, 4, 5, 1, 97],
-        b" should be type 15 of 5 and be written 0f04050161",
+        b"\x03\x05\x00\x00\x05\x01\x02\x03",
+        b"\x03\x05\x00\x00\x05\x01\x02\x03",
     );
 }
 
-pub fn limiting() {
-    frame(&[16, 32], b" should be type 16 of 2 and be written 1020");
-    frame(
-        &[17, 4, 32],
-        b" should be type 17 of 3 and be written 110420",
-    );
-    frame(&[18, 5], b" should be type 18 of 2 and be written 1205");
-    frame(&[19, 5], b" should be type 19 of 2 and be written 1305");
-    frame(&[20, 32], b" should be type 20 of 2 and be written 1420");
-    frame(
-        &[21, 4, 32],
-        b" should be type 21 of 3 and be written 150420",
-    );
-    frame(&[22, 5], b" should be type 22 of 2 and be written 1605");
-    frame(&[23, 5], b" should be type 23 of 2 and be written 1705");
+fn streaming() {
+    frame(b"\x04\x00\x07\x0a", b"\x04\x00\x07\x0a");
+    frame(b"\x05\x04\x07", b"\x05\x04\x07");
+    frame(b"\x06\x00\x02\x61\x62", b"\x06\x00\x02\x61\x62");
+    frame(b"\x07\x02\xaa\xbb", b"\x07\x02\xaa\xbb");
 }
 
-pub fn connecting() {
+fn ending_with_the_packet() {
+    frame(b"\x08\x04\x61\x62", b"\x0a\x04\x02\x61\x62");
+    frame(b"\x09\x04", b"\x0b\x04\x00");
+    frame(b"\x0a\x04\x02\x61\x62\x01", b"\x0a\x04\x02\x61\x62");
+    frame(b"\x0b\x04\x01\x61", b"\x0b\x04\x01\x61");
+}
+
+fn with_an_offset() {
+    frame(b"\x0c\x04\x05\x61", b"\x0e\x04\x05\x01\x61");
+    frame(b"\x0d\x04\x05\x61", b"\x0f\x04\x05\x01\x61");
+    frame(b"\x0e\x04\x00\x01\x61", b"\x0a\x04\x01\x61");
+    frame(b"\x0f\x04\x05\x01\x61", b"\x0f\x04\x05\x01\x61");
+}
+
+fn limiting() {
+    frame(b"\x10\x20", b"\x10\x20");
+    frame(b"\x11\x04\x20", b"\x11\x04\x20");
+    frame(b"\x12\x05", b"\x12\x05");
+    frame(b"\x13\x05", b"\x13\x05");
+}
+
+fn blocked() {
+    frame(b"\x14\x20", b"\x14\x20");
+    frame(b"\x15\x04\x20", b"\x15\x04\x20");
+    frame(b"\x16\x05", b"\x16\x05");
+    frame(b"\x17\x05", b"\x17\x05");
+}
+
+fn connecting() {
     frame(
-        &[
-            24,
-            2,
-            1,
-            3,
-            170,
-            187,
-            204,
-            0,
-            1,
-            2,
-            3,
-            4,
-            5,
-            6,
-            7,
-            8,
-            9,
-            10,
-            11,
-            12,
-            13,
-            14,
-            15,
-        ],
-        b" should be type 24 of 23 and be written 18020103aabbcc000102030405060708090a0b0c0d0e0f",
+        b"\x18\x02\x01\x03\xaa\xbb\xcc\x00\x01\x02\x03\x04\x05\x06\x07\x08\x09\x0a\x0b\x0c\x0d\x0e\x0f",
+        b"\x18\x02\x01\x03\xaa\xbb\xcc\x00\x01\x02\x03\x04\x05\x06\x07\x08\x09\x0a\x0b\x0c\x0d\x0e\x0f",
     );
-    frame(&[25, 3], b" should be type 25 of 2 and be written 1903");
+    frame(b"\x19\x03", b"\x19\x03");
     frame(
-        &[26, 1, 2, 3, 4, 5, 6, 7, 8],
-        b" should be type 26 of 9 and be written 1a0102030405060708",
+        b"\x1a\x01\x02\x03\x04\x05\x06\x07\x08",
+        b"\x1a\x01\x02\x03\x04\x05\x06\x07\x08",
     );
+}
+
+fn closing() {
     frame(
-        &[27, 1, 2, 3, 4, 5, 6, 7, 8],
-        b" should be type 27 of 9 and be written 1b0102030405060708",
+        b"\x1b\x01\x02\x03\x04\x05\x06\x07\x08",
+        b"\x1b\x01\x02\x03\x04\x05\x06\x07\x08",
     );
-    frame(
-        &[28, 10, 6, 2, 111, 107],
-        b" should be type 28 of 6 and be written 1c0a06026f6b",
-    );
-    frame(
-        &[29, 7, 0],
-        b" should be type 29 of 3 and be written 1d0700",
-    );
-    frame(&[30], b" should be type 30 of 1 and be written 1e");
+    frame(b"\x1c\x0a\x06\x02\x6f\x6b", b"\x1c\x0a\x06\x02\x6f\x6b");
+    frame(b"\x1d\x07\x00", b"\x1d\x07\x00");
+    frame(b"\x1e", b"\x1e");
+}
+
+fn streams() {
+    streaming();
+    ending_with_the_packet();
+    with_an_offset();
+}
+
+pub fn all() {
+    print::text(b"\nevery frame, read and written again");
+    acknowledging();
+    streams();
+    limiting();
+    blocked();
+    connecting();
+    closing();
 }

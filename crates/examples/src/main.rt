@@ -21,16 +21,7 @@ fn main() {
     packets::run();
     marks::jumps();
     marks::acknowledgements();
-    print::text(b"\nevery frame, read and written again");
-    again::acknowledging();
-    again::streaming();
-    again::limiting();
-    again::connecting();
-    print::text(b"\nthe borders of the frames");
-    frame_edges::types();
-    frame_edges::numbers();
-    frame_edges::runs();
-    frame_edges::identities();
-    frame_edges::admissions();
+    again::all();
+    frame_edges::all();
     print::text(b"\n");
 }

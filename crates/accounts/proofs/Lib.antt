@@ -1,0 +1,10 @@
+pub mod Tests
+pub mod Sums
+pub mod Fits
+pub mod Steps
+pub mod Owned
+pub mod Demand
+pub mod Anything
+pub mod Proved
+pub mod Rows
+pub mod Contracts

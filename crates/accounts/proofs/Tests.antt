@@ -1,0 +1,100 @@
+-- What tests say: connectives, the acceptance of an answer, the place of a stream and the final size of an entry.
+-- Assumes nothing.
+use Prim.Native.Nat.{ℕ, _+_, _-_, _*_, _/_, _%_, _^_, _≤_, _<_}
+use mathlib.Core.Path.{_≡_, refl, sym, _∙_, ap}
+use mathlib.Core.Bool.{Bool, true, false, _&&_, _||_}
+use mathlib.Core.Logic.{_⊎_, inl, inr}
+use native.Mathlib.Omega.{arith}
+use lib.Dec.{ltb, eqb}
+use borrow.Author.Tests.{lt-ltb, eq-eqb, ne-eqb, ltb-true, eqb-true}
+use Rattle.answers.specs.Choice.{_⇒_∣_}
+use Rattle.answers.specs.Answers.{numberOf}
+use Rattle.answers.specs.declared.Answer.{Answer}
+use Rattle.answers.specs.declared.Answer.the-variants.{Accepted}
+use Rattle.answers.proofs.Numbers.{one-case}
+use Rattle.streams.specs.declared.Final.the-variants.{Unknown, Known}
+use Rattle.streams.specs.Entry.{listed, placeOf, finalOf}
+use Rattle.streams.specs.Frames.{accepts}
+
+-- ---- connectives
+
+pub and-true : (a b : Bool) → a && b ≡ true → (a ≡ true) × (b ≡ true)
+and-true true b e = (refl, e)
+and-true false b e = let z : _≡_ {A = ℕ} 0 1 = cc in absurd (omega arith)
+
+pub and-false : (a b : Bool) → a && b ≡ false → b ≡ true → a ≡ false
+and-false true b e h = sym h ∙ e
+and-false false b e h = refl
+
+pub and-no : (a b : Bool) → b ≡ false → a && b ≡ false
+and-no true b e = e
+and-no false b e = refl
+
+pub or-true : (a b : Bool) → a || b ≡ true → (a ≡ true) ⊎ (b ≡ true)
+or-true true b e = inl refl
+or-true false b e = inr e
+
+pub or-false : (a b : Bool) → a || b ≡ false → (a ≡ false) × (b ≡ false)
+or-false true b e = let z : _≡_ {A = ℕ} 0 1 = cc in absurd (omega arith)
+or-false false b e = (refl, e)
+
+pub not-both : (b : Bool) → b ≡ true → b ≡ false → ⊥
+not-both b p q = let z : _≡_ {A = ℕ} 0 1 = cc in omega arith
+
+-- ---- answers
+
+pub accepts-true : (a : Answer) → accepts a ≡ true → a ≡ Accepted
+accepts-true a e = one-case a Accepted (eqb-true (numberOf a) 0 e)
+
+pub accepts-it : (a : Answer) → a ≡ Accepted → accepts a ≡ true
+accepts-it a e = eq-eqb (numberOf a) 0 (ap numberOf e)
+
+-- a choice that accepts, one of whose sides refuses, went to the other side
+pub refuses : (b : Bool) (a x : Answer) → 0 < numberOf a → (b ⇒ a ∣ x) ≡ Accepted → (b ≡ false) × (x ≡ Accepted)
+refuses true a x l e = absurd (omega (arith, ap numberOf e))
+refuses false a x l e = (refl, e)
+
+pub allows : (b : Bool) (x a : Answer) → 0 < numberOf a → (b ⇒ x ∣ a) ≡ Accepted → (b ≡ true) × (x ≡ Accepted)
+allows true x a l e = (refl, e)
+allows false x a l e = absurd (omega (arith, ap numberOf e))
+
+-- ---- streams that have an entry
+
+-- by facts
+abbrev pub Has : ℕ → Type 0
+Has id = (id % 4 < 3) × (id / 4 < 64)
+
+pub has-listed : (id : ℕ) → Has id → listed id ≡ true
+unfolding listed
+has-listed id h = simp (lt-ltb (id % 4) 3 (h .0), lt-ltb (id / 4) 64 (h .1))
+
+pub listed-has : (id : ℕ) → listed id ≡ true → Has id
+unfolding listed
+listed-has id e = let a = and-true (ltb (id % 4) 3) (ltb (id / 4) 64) e in (ltb-true _ _ (a .0), ltb-true _ _ (a .1))
+
+pub place-is : (id : ℕ) → Has id → placeOf id ≡ 64 * (id % 4) + id / 4
+unfolding placeOf
+place-is id h = simp (has-listed id h)
+
+-- those that look at no entry leave the first one as it is
+pub place-none : placeOf 0 ≡ 0
+unfolding placeOf listed
+place-none = refl
+
+-- ---- final sizes
+
+pub size-none : finalOf (2 ^ 64 - 1) ≡ Unknown
+unfolding finalOf
+size-none = refl
+
+pub size-known : (n : ℕ) → n ≤ 2 ^ 62 - 1 → finalOf n ≡ Known n
+unfolding finalOf
+size-known n l = simp (ne-eqb n (2 ^ 64 - 1) (omega arith))
+
+pub unknown-size : (n : ℕ) → finalOf n ≡ Unknown → n ≡ 2 ^ 64 - 1
+unfolding finalOf
+unknown-size n e = go (eqb n (2 ^ 64 - 1)) refl e
+  where
+    go : (b : Bool) → eqb n (2 ^ 64 - 1) ≡ b → (b ⇒ Unknown ∣ Known n) ≡ Unknown → n ≡ 2 ^ 64 - 1
+    go true p q = eqb-true n (2 ^ 64 - 1) p
+    go false p q = let z : _≡_ {A = ℕ} 0 1 = cc in absurd (omega arith)

@@ -1,0 +1,4 @@
+pub mod History
+pub mod Run
+pub mod Demand3
+pub mod Rows

@@ -1,0 +1,31 @@
+-- `streams::rules::sending` meets its contract: the tests tell the types, and all but type 0 and 2 have one answer.
+-- Assumes nothing.
+use borrow.Author.Needs.{needs}
+use borrow.Author.Tests.{eq-eqb}
+use Rattle.streams.specs.Rules.{sendingOf}
+use Rattle.streams.proofs.Tests.{send-limit, send-state, send-none}
+use Rattle.streams.proofs.rules.sending.Statement.{statement}
+use Rattle.streams.proofs.rules.sending.Tie as tie
+
+returns : tie.Need-returns
+unfolding sendingOf
+returns c = rw (eq-eqb _ _ (c .if1 .taken))
+
+returns-2 : tie.Need-returns-2
+returns-2 c = send-limit _ _ _ (c .before .before .count-of .ensures) (c .before .if2 .taken) (c .if3 .taken)
+
+returns-3 : tie.Need-returns-3
+returns-3 c = send-state _ _ _ (c .before .before .count-of .ensures) (c .before .before .before .if1 .left) (c .before .if2 .taken) (c .if3 .left)
+
+returns-4 : tie.Need-returns-4
+returns-4 c = send-none _ _ _ (c .before .count-of .ensures) (c .before .before .if1 .left) (c .if2 .left)
+
+pub sending-spec : {M : Type 1} → statement M
+sending-spec =
+    tie.close
+    (tie.spec
+    returns
+    (λ c κs. search needs)
+    returns-2
+    returns-3
+    returns-4)

@@ -1,0 +1,76 @@
+-- When a connection and its table fit (no 120), document 01, "120 for the table": entry by entry, and the connection's own numbers.
+use Prim.Native.Nat.{ℕ, zero, suc, _+_, _/_, _%_}
+use mathlib.Core.Bool.{Bool, true, not, _&&_, _||_}
+use mathlib.Core.List.{List}
+use lib.ListN.{length}
+use lib.Dec.{ltb, leb, eqb}
+use Rattle.answers.specs.Choice.{_⇒_∣_}
+use Rattle.streams.specs.Entry.{mostStreams, mostCredit, finalOf, entryAt}
+use Rattle.streams.specs.Conn.{openedOf, initOf}
+use Rattle.streams.specs.Calls.{isKnown}
+use Rattle.streams.specs.declared.Conn.{Conn}
+use Rattle.streams.specs.declared.Entry.{Entry}
+use Rattle.streams.specs.declared.Final.{Final}
+use Rattle.streams.specs.declared.Final.the-variants.{Unknown, Known}
+use Rattle.streams.specs.declared.Summed.{Summed}
+use Rattle.streams.specs.declared.Summed.the-variants.{To, Unfit}
+
+-- a known final size is the end
+abbrev pub sizeFits : Final → ℕ → Bool
+sizeFits Unknown end = true
+sizeFits (Known size) end = eqb size end
+
+-- as opening sets it
+unfoldable pub isFresh : Entry → ℕ → Bool
+isFresh e credit = eqb (e .credit) credit && (eqb (e .end) 0 && not (isKnown (finalOf (e .size))))
+
+-- the entry at a place: its end is within its credit, a known final size is the end, it is as opening set it unless it is open, and its credit is within the ceiling
+unfoldable pub entryFits : Conn → ℕ → Entry → Bool
+entryFits c i e =
+    leb (e .end) (e .credit)
+    && (sizeFits (finalOf (e .size)) (e .end)
+    && ((ltb (i % 64) (openedOf c (i / 64)) || isFresh e (initOf c (i / 64)))
+    && leb (e .credit) mostCredit))
+
+-- no credit is above its ceiling
+unfoldable pub limitsFit : Conn → Bool
+limitsFit c = leb (c .credit) mostCredit && (leb (c .init0) mostCredit && (leb (c .init1) mostCredit && leb (c .init2) mostCredit))
+
+-- no count is above its ceiling, and no more is open than the count allows
+unfoldable pub countsFit : Conn → Bool
+countsFit c =
+    leb (c .count0) mostStreams
+    && (leb (c .open1) mostStreams
+    && (leb (c .count2) mostStreams
+    && (leb (c .open3) mostStreams
+    && (leb (c .open0) (c .count0)
+    && leb (c .open2) (c .count2)))))
+
+-- and the total is within the connection credit
+unfoldable pub connFits : Conn → Bool
+connFits c = leb (c .total) (c .credit) && (limitsFit c && countsFit c)
+
+-- f 0 + .. + f (n - 1)
+unfoldable pub sumTo : ℕ → (ℕ → ℕ) → ℕ
+sumTo zero f = 0
+sumTo (suc n) f = sumTo n f + f n
+
+-- all of p 0, .., p (n - 1)
+unfoldable pub allTo : ℕ → (ℕ → Bool) → Bool
+allTo zero p = true
+allTo (suc n) p = allTo n p && p n
+
+-- no 120: 192 entries, each of which fits, a total that is the sum of the ends, and a connection that fits
+unfoldable pub fits : Conn → List Entry → Bool
+fits c t =
+    eqb (length t) 192
+    && (allTo 192 (λ i. entryFits c i (entryAt t i))
+    && (eqb (c .total) (sumTo 192 (λ i. entryAt t i .end))
+    && connFits c))
+
+-- one step of the check over the table: the entry fits, and the running sum stays within the connection credit, so that it cannot wrap
+unfoldable pub summedOf : Conn → ℕ → Entry → ℕ → Summed
+summedOf c i e sum =
+    not (entryFits c i e) ⇒ Unfit
+    ∣ ltb (c .credit) (sum + e .end) ⇒ Unfit
+    ∣ To (sum + e .end)
