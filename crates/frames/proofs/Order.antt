@@ -17,7 +17,7 @@ use Rattle.frames.specs.Layout.{layouts, layoutOf, known}
 use Rattle.frames.specs.Admission.{admitted}
 use Rattle.frames.specs.Body.{optionalAt, numbersAt}
 use Rattle.frames.specs.Faults.{faultOf}
-use Rattle.frames.specs.Fields.{frameOf, fieldsAt}
+use Rattle.frames.specs.Fields.{frameOf, endedAt, fieldsAt}
 use Rattle.frames.specs.Reading.{headAt, withHead, frameAt, anyFrameAt}
 use Rattle.frames.specs.declared.Kind.{Kind}
 use Rattle.frames.specs.declared.Frame.the-variants.{Padding}
@@ -71,7 +71,7 @@ any-fields s at e f g = rw (e, f, g)
 
 -- a byte 0 is a PADDING frame in every packet
 pub padding : (s : List ℕ) (at : ℕ) (kind : Kind) → at < length s → getD s at 0 ≡ 0 → frameAt s at kind ≡ Got Padding 0 (at + 1)
-unfolding shortest sizeOf formOf known admitted fieldsAt layoutOf layouts numbersAt optionalAt faultOf frameOf
+unfolding shortest sizeOf formOf known admitted fieldsAt endedAt layoutOf layouts numbersAt optionalAt faultOf frameOf
 padding s at kind h e =
     let r : numberAt s at ≡ Is 0 (at + 1) = by-form s at 0 (rw e) ∙ form-byte s at (omega arith) (omega arith) ∙ ap (λ (v : ℕ). Is v (at + 1)) e in
     fields-last s at kind r (eq-eqb (at + 1) (at + 1) refl) refl refl

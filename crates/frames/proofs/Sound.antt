@@ -20,7 +20,7 @@ use Rattle.ranges.proofs.Sound as ranges
 use Rattle.frames.specs.Layout.{layoutOf, known}
 use Rattle.frames.specs.Faults.{faultOf}
 use Rattle.frames.specs.Body.{optionalAt, numbersAt, sizedAt, countedAt, remainderAt, identityAt, rangedAt, bodyAt}
-use Rattle.frames.specs.Fields.{fieldsAt}
+use Rattle.frames.specs.Fields.{endedAt, fieldsAt}
 use Rattle.frames.specs.Admission.{admitted}
 use Rattle.frames.specs.Reading.{headAt, frameAt, anyFrameAt}
 use Rattle.frames.specs.Sound.{Lies, FieldsRead}
@@ -45,7 +45,7 @@ module _ (s : List ℕ) (at ty : ℕ) where
   IfGot (Refused answer t) = Unit
 
   all-got : IfGot (fieldsAt s at ty)
-  unfolding fieldsAt
+  unfolding fieldsAt endedAt
   all-got =
       with-numbers IfGot (numbersAt s at (layoutOf ty .numbers)) (Refused FrameEncoding ty) _ tt (λ a b c d p e.
       with-body IfGot (bodyAt s p (layoutOf ty .tail) a c d) (Refused FrameEncoding ty) _ tt (λ start len token q g.

@@ -42,13 +42,17 @@ frameOf p =
     ∣ eqb (p .ty) 0x1d ⇒ ApplicationClose (p .a) (p .at) (p .len)
     ∣ HandshakeDone
 
+-- the numbers behind a frame's bytes, and the frame, unless it has a fault
+unfoldable pub endedAt : List ℕ → ℕ → ℕ → Parts → Reading
+endedAt s at after p =
+    withNumbers (numbersAt s at after) (Refused FrameEncoding (p .ty)) (λ x y z rest next.
+    faultOf (p .ty) (p .a) (p .b) (p .len) ⇒ Refused FrameEncoding (p .ty)
+    ∣ Got (frameOf (record { ty = p .ty; a = p .a; b = p .b; c = p .c; d = p .d; at = p .at; len = p .len; token = p .token; x = x; y = y; z = z })) (p .ty) next)
+
 -- the fields at a place
 unfoldable pub fieldsAt : List ℕ → ℕ → ℕ → Reading
 fieldsAt s at ty =
     let l = layoutOf ty in
-    let none = Refused FrameEncoding ty in
-    withNumbers (numbersAt s at (l .numbers)) none (λ a b c d p.
-    withBody (bodyAt s p (l .tail) a c d) none (λ start len token q.
-    withNumbers (numbersAt s q (l .after)) none (λ x y z rest next.
-    faultOf ty a b len ⇒ none
-    ∣ Got (frameOf (record { ty = ty; a = a; b = b; c = c; d = d; at = start; len = len; token = token; x = x; y = y; z = z })) ty next)))
+    withNumbers (numbersAt s at (l .numbers)) (Refused FrameEncoding ty) (λ a b c d p.
+    withBody (bodyAt s p (l .tail) a c d) (Refused FrameEncoding ty) (λ start len token q.
+    endedAt s q (l .after) (record { ty = ty; a = a; b = b; c = c; d = d; at = start; len = len; token = token; x = 0; y = 0; z = 0 })))

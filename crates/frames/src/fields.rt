@@ -1,6 +1,8 @@
 // The fields of a frame whose type is known: read by its layout, judged, and put together.
 ghost use mathlib.Core.Path.{_≡_};
-ghost use Rattle.frames.specs.Fields.{frameOf, fieldsAt};
+ghost use Rattle.frames.specs.Fields.{frameOf, endedAt, fieldsAt};
+ghost use Rattle.answers.specs.declared.Answer.the-variants.{FrameEncoding};
+ghost use Rattle.frames.specs.declared.Reading.the-variants.{Refused};
 use crate::Body;
 use crate::Frame;
 use crate::Numbers;
@@ -111,6 +113,43 @@ fn together(p: Parts) -> Frame
     }
 }
 
+fn refused(ty: u64) -> Reading
+    ensures { λ r. ⌜ r ≡ Refused FrameEncoding ty ⌝ }
+{
+    Reading::Refused {
+        answer: Answer::FrameEncoding,
+        ty,
+    }
+}
+
+// The numbers behind a frame's bytes; then the frame is judged, and put together.
+fn ended(s: &[u8], at: usize, after: u8, p: Parts) -> Reading
+    ensures { λ r. ⌜ r ≡ endedAt (now (s .entry)) at after p ⌝ }
+{
+    let Numbers::Are {
+        a: x,
+        b: y,
+        c: z,
+        d: _,
+        next,
+    } = pieces::four(s, at, after)
+    else {
+        return refused(p.ty);
+    };
+    if rules::fault(p.ty, p.a, p.b, p.len as u64) {
+        return refused(p.ty);
+    }
+    let mut all = p;
+    all.x = x;
+    all.y = y;
+    all.z = z;
+    Reading::Got {
+        frame: together(all),
+        ty: p.ty,
+        next,
+    }
+}
+
 // Reads the fields of a frame of a known type at a place.
 pub fn read(s: &[u8], at: usize, ty: u64) -> Reading
     ensures { λ r. ⌜ r ≡ fieldsAt (now (s .entry)) at ty ⌝ }
@@ -125,10 +164,7 @@ pub fn read(s: &[u8], at: usize, ty: u64) -> Reading
         next: p,
     } = pieces::four(s, at, l.numbers)
     else {
-        return Reading::Refused {
-            answer: Answer::FrameEncoding,
-            ty,
-        };
+        return refused(ty);
     };
     let Body::Is {
         at: start,
@@ -137,32 +173,13 @@ pub fn read(s: &[u8], at: usize, ty: u64) -> Reading
         next: q,
     } = pieces::read(s, p, tail, a, c, d)
     else {
-        return Reading::Refused {
-            answer: Answer::FrameEncoding,
-            ty,
-        };
+        return refused(ty);
     };
-    let Numbers::Are {
-        a: x,
-        b: y,
-        c: z,
-        d: _,
-        next,
-    } = pieces::four(s, q, l.after)
-    else {
-        return Reading::Refused {
-            answer: Answer::FrameEncoding,
-            ty,
-        };
-    };
-    if rules::fault(ty, a, b, len as u64) {
-        return Reading::Refused {
-            answer: Answer::FrameEncoding,
-            ty,
-        };
-    }
-    Reading::Got {
-        frame: together(Parts {
+    ended(
+        s,
+        q,
+        l.after,
+        Parts {
             ty,
             a,
             b,
@@ -171,11 +188,9 @@ pub fn read(s: &[u8], at: usize, ty: u64) -> Reading
             at: start,
             len,
             token,
-            x,
-            y,
-            z,
-        }),
-        ty,
-        next,
-    }
+            x: 0,
+            y: 0,
+            z: 0,
+        },
+    )
 }

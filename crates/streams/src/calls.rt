@@ -2,7 +2,7 @@
 ghost use mathlib.Core.Path.{_≡_};
 ghost use Rattle.streams.specs.Entry.{mostStreams};
 ghost use Rattle.streams.specs.Conn.{isOpen, limited};
-ghost use Rattle.streams.specs.Calls.{isKnown, raiseOf, raiseStreamOf, handOutOf};
+ghost use Rattle.streams.specs.Calls.{isKnown, raiseOf, raiseStreamOf};
 ghost use Rattle.streams.specs.Frames.{Call, leftOf, raisedOf, calledOf, openedNextOf, handedOutOf};
 use crate::Called;
 use crate::Conn;

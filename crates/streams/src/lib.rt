@@ -8,7 +8,7 @@ ghost use mathlib.Core.Path.{_≡_};
 ghost use Rattle.streams.specs.Entry.{finalOf};
 ghost use Rattle.streams.specs.Conn.{openedOf, countOf, markedAs, openTo};
 ghost use Rattle.streams.specs.Calls.{nextOf};
-ghost use Rattle.streams.specs.Opening.{openingOf};
+ghost use Rattle.streams.specs.Opening.{openedConn, openingOf};
 use answers::Answer;
 
 // An entry of the stream table. `size` is the final size, and `Entry::UNKNOWN` as long as there is none.
@@ -121,6 +121,29 @@ impl Conn {
 
     pub const MOST_CREDIT: u64 = 4611686018427387903;
 
+    // Nothing is open, nothing counted, no number handed out.
+    fn fresh(init0: u64, init1: u64, init2: u64, count0: u64, count2: u64, credit: u64) -> Conn
+        ensures { λ r. ⌜ r ≡ openedConn init0 init1 init2 count0 count2 credit ⌝ }
+    {
+        Conn {
+            credit,
+            total: 0,
+            count0,
+            count2,
+            open0: 0,
+            open1: 0,
+            open2: 0,
+            open3: 0,
+            init0,
+            init1,
+            init2,
+            next0: 0,
+            next1: 0,
+            next2: 0,
+            mark: Mark::Open,
+        }
+    }
+
     // A connection that was just opened, or 103 for a limit above its ceiling.
     pub fn open(init0: u64, init1: u64, init2: u64, count0: u64, count2: u64, credit: u64) -> Opened
         ensures { λ r. ⌜ r ≡ openingOf init0 init1 init2 count0 count2 credit ⌝ }
@@ -156,23 +179,7 @@ impl Conn {
             };
         }
         Opened::As {
-            conn: Conn {
-                credit,
-                total: 0,
-                count0,
-                count2,
-                open0: 0,
-                open1: 0,
-                open2: 0,
-                open3: 0,
-                init0,
-                init1,
-                init2,
-                next0: 0,
-                next1: 0,
-                next2: 0,
-                mark: Mark::Open,
-            },
+            conn: Conn::fresh(init0, init1, init2, count0, count2, credit),
         }
     }
 

@@ -15,7 +15,7 @@ use Rattle.wire.proofs.Exit.{length-bytes}
 use Rattle.row.specs.Row.{inRange}
 use Rattle.frames.specs.Layout.{layoutOf}
 use Rattle.frames.specs.Body.{numbersAt}
-use Rattle.frames.specs.Fields.{frameOf, fieldsAt}
+use Rattle.frames.specs.Fields.{frameOf, endedAt, fieldsAt}
 use Rattle.frames.specs.Reading.{headAt, anyFrameAt}
 use Rattle.frames.specs.declared.Layout.{Layout}
 use Rattle.frames.specs.declared.Parts.{Parts}
@@ -108,7 +108,7 @@ module _ (s out : List ℕ) (f : Frame) (at : ℕ) (t : takes (contents s f) ≡
   ends = omega (arith, spelled-length (contents s f))
 
   fields : fieldsAt out (at + sizeOf (p .ty)) (p .ty) ≡ Got g (p .ty) (r + length A)
-  unfolding fieldsAt
+  unfolding fieldsAt endedAt
   fields =
       rw (numbers, body .2 .found ∙ (λ i. Body'.Is (atIn (l .tail) (body .0)) (keeps i .len) (tokenIn (l .tail) (body .1)) r), after, taken (contents s f) t .right)
 

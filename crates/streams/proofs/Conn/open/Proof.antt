@@ -1,7 +1,8 @@
 -- `streams::Conn::open` meets its contract: the tests are those of the definition, in its order.
 -- Assumes nothing.
+use borrow.Author.Needs.{needs}
 use borrow.Author.Tests.{lt-ltb, le-ltb}
-use Rattle.streams.specs.Opening.{openingOf, openedConn}
+use Rattle.streams.specs.Opening.{openingOf}
 use Rattle.streams.proofs.Conn.open.Statement.{statement}
 use Rattle.streams.proofs.Conn.open.Tie as tie
 
@@ -30,8 +31,18 @@ unfolding openingOf
 returns-6 c = rw (le-ltb _ _ (c .before .before .before .before .before .if1 .left), le-ltb _ _ (c .before .before .before .before .if2 .left), le-ltb _ _ (c .before .before .before .if3 .left), le-ltb _ _ (c .before .before .if4 .left), le-ltb _ _ (c .before .if5 .left), lt-ltb _ _ (c .if6 .taken))
 
 returns-7 : tie.Need-returns-7
-unfolding openingOf openedConn
-returns-7 c = rw (le-ltb _ _ (c .before .before .before .before .before .if1 .left), le-ltb _ _ (c .before .before .before .before .if2 .left), le-ltb _ _ (c .before .before .before .if3 .left), le-ltb _ _ (c .before .before .if4 .left), le-ltb _ _ (c .before .if5 .left), le-ltb _ _ (c .if6 .left))
+unfolding openingOf
+returns-7 c =
+    let k = c .before in
+    rw (
+      c .fresh .ensures,
+      le-ltb _ _ (k .before .before .before .before .before .if1 .left),
+      le-ltb _ _ (k .before .before .before .before .if2 .left),
+      le-ltb _ _ (k .before .before .before .if3 .left),
+      le-ltb _ _ (k .before .before .if4 .left),
+      le-ltb _ _ (k .before .if5 .left),
+      le-ltb _ _ (k .if6 .left),
+    )
 
 pub open-spec : {M : Type 1} → statement M
 open-spec =
@@ -43,4 +54,5 @@ open-spec =
     returns-4
     returns-5
     returns-6
+    (λ c κs. search needs)
     returns-7)
