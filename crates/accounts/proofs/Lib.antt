@@ -8,3 +8,4 @@ pub mod Anything
 pub mod Proved
 pub mod Rows
 pub mod Contracts
+pub mod Borders

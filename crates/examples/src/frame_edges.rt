@@ -46,7 +46,17 @@ fn numbers() {
         b"\x12\xd0\x00\x00\x00\x00\x00\x00\x01",
     );
     pair(
+        b"\nMAX_STREAMS, one-way, of 2^60 and one more should answer 0 and 7, answer ",
+        b"\x13\xd0\x00\x00\x00\x00\x00\x00\x00",
+        b"\x13\xd0\x00\x00\x00\x00\x00\x00\x01",
+    );
+    pair(
         b"\nSTREAMS_BLOCKED of 2^60 and one more should answer 0 and 7, answer ",
+        b"\x16\xd0\x00\x00\x00\x00\x00\x00\x00",
+        b"\x16\xd0\x00\x00\x00\x00\x00\x00\x01",
+    );
+    pair(
+        b"\nSTREAMS_BLOCKED, one-way, of 2^60 and one more should answer 0 and 7, answer ",
         b"\x17\xd0\x00\x00\x00\x00\x00\x00\x00",
         b"\x17\xd0\x00\x00\x00\x00\x00\x00\x01",
     );

@@ -1,0 +1,80 @@
+-- Document 01's rules of streams, local calls and 120 at their borders, each from both sides: they hold the definitions to the document. Beside each, its sentence.
+use Prim.Native.Nat.{ℕ, _-_, _^_}
+use mathlib.Core.Path.{_≡_}
+use mathlib.Core.Bool.{Bool, true, false}
+use mathlib.Core.List.{List, [], _∷_, map}
+use Rattle.answers.specs.Answers.{numberOf}
+use Rattle.answers.specs.declared.Answer.the-variants.{AboveCeiling}
+use Rattle.streams.specs.declared.Conn.{Conn}
+use Rattle.streams.specs.declared.Entry.{Entry}
+use Rattle.streams.specs.declared.Mark.{Mark}
+use Rattle.streams.specs.declared.Mark.the-variants.{Open, ByPeer}
+use Rattle.streams.specs.declared.Opened.the-variants.{As, Refused}
+use Rattle.streams.specs.declared.Space.the-variants.{Initial, Handshake, Application}
+use Rattle.streams.specs.declared.Summed.the-variants.{To, Unfit}
+use Rattle.streams.specs.declared.View.{View}
+use Rattle.streams.specs.declared.View.the-variants.{Ends, Blocks, Sends, Acks}
+use Rattle.streams.specs.Entry.{fresh}
+use Rattle.streams.specs.Opening.{openedConn, openingOf}
+use Rattle.streams.specs.Frames.{Call, ruledOf, connAfter, callOf}
+use Rattle.streams.specs.Frames.Call.{RaiseCredit, RaiseStream, RaiseCount, OpenNext, HandOut}
+use Rattle.streams.specs.Frames.Event.{Got, Did}
+use Rattle.streams.specs.Fits.{entryFits, connFits, summedOf}
+
+-- a connection with counts 4 and 4, stream credits 16, connection credit 40, so many streams of each type open, a next number of the last space, and a mark
+abbrev pub bench : ℕ → ℕ → ℕ → ℕ → ℕ → Mark → Conn
+bench open0 open1 open2 open3 next mark = record { credit = 40; total = 0; count0 = 4; count2 = 4; open0 = open0; open1 = open1; open2 = open2; open3 = open3; init0 = 16; init1 = 16; init2 = 16; next0 = 0; next1 = 0; next2 = next; mark = mark }
+
+abbrev pub entry : ℕ → ℕ → ℕ → Entry
+entry credit end size = record { credit = credit; end = end; size = size }
+
+-- the answers to some frames, each on the connection as it is and an entry with credit 16
+abbrev pub heard : Conn → List View → List ℕ
+heard c l = map (λ v. numberOf (ruledOf c (fresh 16) (Got v))) l
+
+-- the answers to some local calls, on an entry
+abbrev pub called : Conn → Entry → List Call → List ℕ
+called c e l = map (λ k. numberOf (callOf c e k)) l
+
+pub record Borders : Type 0 where
+  -- "STREAM_DATA_BLOCKED: rules 1 and 2": types 0 and 2 by their counts; type 1 by what we opened; type 3 never
+  pub blocked : heard (bench 0 1 0 1 0 Open) (Blocks 12 ∷ Blocks 16 ∷ Blocks 14 ∷ Blocks 18 ∷ Blocks 1 ∷ Blocks 5 ∷ Blocks 3 ∷ []) ≡ 0 ∷ 4 ∷ 0 ∷ 4 ∷ 0 ∷ 5 ∷ 5 ∷ []
+  -- "STOP_SENDING and MAX_STREAM_DATA: type 2 is 5, type 1 or 3 not opened by us is 5, then rule 2 for type 0"
+  pub sending : heard (bench 0 1 0 1 0 Open) (Sends 12 ∷ Sends 16 ∷ Sends 2 ∷ Sends 18 ∷ Sends 1 ∷ Sends 5 ∷ Sends 3 ∷ Sends 7 ∷ []) ≡ 0 ∷ 4 ∷ 5 ∷ 5 ∷ 0 ∷ 5 ∷ 0 ∷ 5 ∷ []
+  -- "It opens all lower ordinals of the type"; "These open too"; and a lower stream closes none
+  pub opens-ends : connAfter (bench 0 0 0 0 0 Open) (fresh 16) (Got (Ends 12 0 false)) .open0 ≡ 4
+  pub opens-blocks : connAfter (bench 0 0 0 0 0 Open) (fresh 16) (Got (Blocks 14)) .open2 ≡ 4
+  pub opens-sends : connAfter (bench 0 0 0 0 0 Open) (fresh 16) (Got (Sends 8)) .open0 ≡ 3
+  pub closes-none : connAfter (bench 4 0 0 0 0 Open) (fresh 16) (Got (Ends 0 0 false)) .open0 ≡ 4
+  -- "An ACK of a number not yet handed out in its space is 10"
+  pub acknowledged : heard (bench 0 0 0 0 1 Open) (Acks Application 0 ∷ Acks Application 1 ∷ Acks Initial 0 ∷ Acks Handshake 0 ∷ []) ≡ 0 ∷ 10 ∷ 10 ∷ 10 ∷ []
+  -- 103 above the ceiling, 102 not above the present value: the connection credit ..
+  pub credit : called (bench 0 0 0 0 0 Open) (fresh 16) (RaiseCredit 40 ∷ RaiseCredit 41 ∷ RaiseCredit (2 ^ 62 - 1) ∷ RaiseCredit (2 ^ 62) ∷ []) ≡ 102 ∷ 0 ∷ 0 ∷ 103 ∷ []
+  -- .. "a count of type 0 or 2" ..
+  pub count : called (bench 0 0 0 0 0 Open) (fresh 16) (RaiseCount 0 4 ∷ RaiseCount 0 5 ∷ RaiseCount 2 64 ∷ RaiseCount 2 65 ∷ RaiseCount 1 5 ∷ RaiseCount 3 5 ∷ []) ≡ 102 ∷ 0 ∷ 0 ∷ 103 ∷ 104 ∷ 104 ∷ []
+  -- .. "a stream's credit": open streams with a receive half alone
+  pub stream : called (bench 1 1 1 1 0 Open) (fresh 16) (RaiseStream 0 16 ∷ RaiseStream 0 17 ∷ RaiseStream 1 (2 ^ 62 - 1) ∷ RaiseStream 2 (2 ^ 62) ∷ RaiseStream 4 17 ∷ RaiseStream 3 17 ∷ []) ≡ 102 ∷ 0 ∷ 0 ∷ 103 ∷ 104 ∷ 104 ∷ []
+  -- "Order: 101, 104, 105, 103, 102"
+  pub known-size : called (bench 1 0 0 0 0 Open) (entry 16 5 5) (RaiseStream 0 17 ∷ RaiseStream 0 (2 ^ 62) ∷ RaiseStream 0 16 ∷ RaiseStream 4 16 ∷ []) ≡ 105 ∷ 105 ∷ 105 ∷ 104 ∷ []
+  pub closed : called (bench 1 0 0 0 0 ByPeer) (entry 16 5 5) (RaiseStream 0 17 ∷ RaiseStream 4 17 ∷ RaiseCount 1 5 ∷ RaiseCredit (2 ^ 62) ∷ OpenNext 0 ∷ []) ≡ 101 ∷ 101 ∷ 101 ∷ 101 ∷ 101 ∷ []
+  -- "open the next type 1 or 3 stream", 64 streams a type
+  pub next : called (bench 0 63 0 64 0 Open) (fresh 16) (OpenNext 0 ∷ OpenNext 1 ∷ OpenNext 2 ∷ OpenNext 3 ∷ []) ≡ 104 ∷ 0 ∷ 104 ∷ 103 ∷ []
+  -- "a call hands out the next number of a space, from 0; after 2^62-1 it is 103"
+  pub last-number : called (bench 0 0 0 0 (2 ^ 62 - 1) Open) (fresh 16) (HandOut Application ∷ HandOut Initial ∷ []) ≡ 0 ∷ 0 ∷ []
+  pub no-number : called (bench 0 0 0 0 (2 ^ 62) Open) (fresh 16) (HandOut Application ∷ []) ≡ 103 ∷ []
+  -- opening: "64 streams a type, credit 2^62-1"
+  pub opened-most : openingOf (2 ^ 62 - 1) (2 ^ 62 - 1) (2 ^ 62 - 1) 64 64 (2 ^ 62 - 1) ≡ As (openedConn (2 ^ 62 - 1) (2 ^ 62 - 1) (2 ^ 62 - 1) 64 64 (2 ^ 62 - 1))
+  pub opened-credit : openingOf 0 0 (2 ^ 62) 64 64 0 ≡ Refused AboveCeiling
+  pub opened-count : openingOf 0 0 0 64 65 0 ≡ Refused AboveCeiling
+  -- 120: "an end is above its credit"
+  pub end-fits : map (entryFits (bench 1 0 0 0 0 Open) 0) (entry 16 16 (2 ^ 64 - 1) ∷ entry 16 17 (2 ^ 64 - 1) ∷ []) ≡ true ∷ false ∷ []
+  -- "a known final size differs from the end"
+  pub size-fits : map (entryFits (bench 1 0 0 0 0 Open) 0) (entry 16 5 5 ∷ entry 16 5 4 ∷ entry 16 5 6 ∷ []) ≡ true ∷ false ∷ false ∷ []
+  -- "an unopened entry is not as opening set it": entry 0 is open here, entry 1 is not
+  pub unopened : map (entryFits (bench 1 0 0 0 0 Open) 1) (fresh 16 ∷ fresh 17 ∷ entry 16 1 (2 ^ 64 - 1) ∷ entry 16 0 0 ∷ []) ≡ true ∷ false ∷ false ∷ false ∷ []
+  -- "a limit is above its ceiling"
+  pub limit-fits : map (entryFits (bench 1 0 0 0 0 Open) 0) (fresh (2 ^ 62 - 1) ∷ fresh (2 ^ 62) ∷ []) ≡ true ∷ false ∷ []
+  -- "more is open than the count allows"
+  pub open-fits : map connFits (bench 4 64 4 64 0 Open ∷ bench 5 0 0 0 0 Open ∷ bench 0 65 0 0 0 Open ∷ bench 0 0 5 0 0 Open ∷ bench 0 0 0 65 0 Open ∷ []) ≡ true ∷ false ∷ false ∷ false ∷ false ∷ []
+  -- "the total .. is above the connection credit": the running sum stops there
+  pub sum-fits : map (summedOf (bench 1 0 0 0 0 Open) 0 (entry 16 16 (2 ^ 64 - 1))) (24 ∷ 25 ∷ []) ≡ To 40 ∷ Unfit ∷ []
