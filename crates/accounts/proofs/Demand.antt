@@ -3,7 +3,7 @@
 -- Assumes nothing.
 use Prim.Native.Nat.{ℕ, _+_, _-_, _/_, _%_, _≤_, _<_, max}
 use mathlib.Core.Path.{_≡_, refl, sym, _∙_, ap, subst}
-use mathlib.Core.Bool.{Bool, true, false, not}
+use mathlib.Core.Bool.{Bool, true, false, not, and-eq-true-iff}
 use mathlib.Core.List.{List, []}
 use native.Mathlib.Omega.{arith}
 use native.Mathlib.Decide.{ℕ-discrete, decLe}
@@ -22,7 +22,7 @@ use Rattle.streams.specs.Frames.{Event, ruledOf}
 use Rattle.streams.specs.Frames.Event.{Got}
 use Rattle.streams.specs.Fits.{sumTo, fits}
 use Rattle.accounts.specs.History.{State, answerOf, Opening, stateOf, AllAccepted, own, furthestOf, finalNamed, furthest, creditOf, maySend, granted, Running, ruling}
-use Rattle.accounts.proofs.Tests.{and-true, Has, has-listed, place-is}
+use Rattle.accounts.proofs.Tests.{Has, has-listed, place-is}
 use Rattle.accounts.proofs.Sums.{sum-same, sum-le, sum-at, sum-more, sum-streams}
 use Rattle.accounts.proofs.Fits.{Fits, fits-test}
 use Rattle.accounts.proofs.Steps.{may, count-top, opened-in}
@@ -183,7 +183,7 @@ module _ (o : Opening) (h : List Event) (r : Running o h) where
   unfolding maySend rule5
   neighbours-never id end m l =
       let f = always o h (r .accepted) in
-      let a = and-true (not (eqb (id % 4) 3)) (ltb (id / 4) (countOf (stateOf o h .conn) (id % 4))) m in
+      let a = and-eq-true-iff (not (eqb (id % 4) 3)) (ltb (id / 4) (countOf (stateOf o h .conn) (id % 4))) .0 m in
       let k : id % 4 < 3 = omega (arith, eqb-false (id % 4) 3 (not-true _ (a .0))) in
       let b : id / 4 < countOf (stateOf o h .conn) (id % 4) = ltb-true _ _ (a .1) in
       let has : Has id = (k, omega (arith, count-top (stateOf o h .conn) (id % 4) (f .conn))) in

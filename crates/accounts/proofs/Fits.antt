@@ -2,7 +2,7 @@
 -- Assumes nothing.
 use Prim.Native.Nat.{ℕ, _+_, _-_, _/_, _%_, _^_, _≤_, _<_}
 use mathlib.Core.Path.{_≡_, refl, sym, _∙_, ap, subst}
-use mathlib.Core.Bool.{true, _&&_, _||_, not}
+use mathlib.Core.Bool.{true, _&&_, _||_, not, and-eq-true-iff}
 use mathlib.Core.List.{List}
 use mathlib.Core.Logic.{_⊎_, inl, inr}
 use native.Mathlib.Omega.{arith}
@@ -19,7 +19,7 @@ use Rattle.streams.specs.Entry.{mostStreams, mostCredit, finalOf, fresh, entryA
 use Rattle.streams.specs.Conn.{openedOf, initOf}
 use Rattle.streams.specs.Calls.{isKnown}
 use Rattle.streams.specs.Fits.{sizeFits, isFresh, entryFits, limitsFit, countsFit, connFits, sumTo, allTo, fits}
-use Rattle.accounts.proofs.Tests.{and-true, or-true, size-none, unknown-size}
+use Rattle.accounts.proofs.Tests.{or-true, size-none, unknown-size}
 use Rattle.accounts.proofs.Sums.{all-at, all-of, sum-at}
 
 pub record EntryOk (c : Conn) (i : ℕ) (e : Entry) : Type 0 where
@@ -64,8 +64,8 @@ size-test (Known m) x h = eq-eqb m x (h m refl)
 fresh-fact : (e : Entry) (n : ℕ) → isFresh e n ≡ true → e ≡ fresh n
 unfolding isFresh
 fresh-fact e n h =
-    let a = and-true (eqb (e .credit) n) (eqb (e .end) 0 && not (isKnown (finalOf (e .size)))) h in
-    let b = and-true (eqb (e .end) 0) (not (isKnown (finalOf (e .size)))) (a .1) in
+    let a = and-eq-true-iff (eqb (e .credit) n) (eqb (e .end) 0 && not (isKnown (finalOf (e .size)))) .0 h in
+    let b = and-eq-true-iff (eqb (e .end) 0) (not (isKnown (finalOf (e .size)))) .0 (a .1) in
     let p : e .credit ≡ n = eqb-true _ _ (a .0) in
     let q : e .end ≡ 0 = eqb-true _ _ (b .0) in
     let r : e .size ≡ 2 ^ 64 - 1 = unknown-size (e .size) (unknown (finalOf (e .size)) (b .1)) in
@@ -78,9 +78,9 @@ fresh-test e n h = ap (λ (x : Entry). isFresh x n) h ∙ simp (eq-eqb n n refl,
 entry-ok : (c : Conn) (i : ℕ) (e : Entry) → entryFits c i e ≡ true → EntryOk c i e
 unfolding entryFits
 entry-ok c i e h =
-    let a = and-true (leb (e .end) (e .credit)) _ h in
-    let b = and-true (sizeFits (finalOf (e .size)) (e .end)) _ (a .1) in
-    let d = and-true (ltb (i % 64) (openedOf c (i / 64)) || isFresh e (initOf c (i / 64))) _ (b .1) in
+    let a = and-eq-true-iff (leb (e .end) (e .credit)) _ .0 h in
+    let b = and-eq-true-iff (sizeFits (finalOf (e .size)) (e .end)) _ .0 (a .1) in
+    let d = and-eq-true-iff (ltb (i % 64) (openedOf c (i / 64)) || isFresh e (initOf c (i / 64))) _ .0 (b .1) in
     record {
       within = leb-true _ _ (a .0);
       size-is = size-fact (finalOf (e .size)) (e .end) (b .0);
@@ -103,16 +103,16 @@ entry-test c i e h = simp (le-leb _ _ (h .within), size-test (finalOf (e .size))
 conn-ok : (c : Conn) → connFits c ≡ true → ConnOk c
 unfolding connFits limitsFit countsFit
 conn-ok c h =
-    let a = and-true (leb (c .total) (c .credit)) _ h in
-    let b = and-true (limitsFit c) (countsFit c) (a .1) in
-    let d = and-true (leb (c .credit) mostCredit) _ (b .0) in
-    let e = and-true (leb (c .init0) mostCredit) _ (d .1) in
-    let f = and-true (leb (c .init1) mostCredit) _ (e .1) in
-    let g = and-true (leb (c .count0) mostStreams) _ (b .1) in
-    let i = and-true (leb (c .open1) mostStreams) _ (g .1) in
-    let j = and-true (leb (c .count2) mostStreams) _ (i .1) in
-    let k = and-true (leb (c .open3) mostStreams) _ (j .1) in
-    let l = and-true (leb (c .open0) (c .count0)) _ (k .1) in
+    let a = and-eq-true-iff (leb (c .total) (c .credit)) _ .0 h in
+    let b = and-eq-true-iff (limitsFit c) (countsFit c) .0 (a .1) in
+    let d = and-eq-true-iff (leb (c .credit) mostCredit) _ .0 (b .0) in
+    let e = and-eq-true-iff (leb (c .init0) mostCredit) _ .0 (d .1) in
+    let f = and-eq-true-iff (leb (c .init1) mostCredit) _ .0 (e .1) in
+    let g = and-eq-true-iff (leb (c .count0) mostStreams) _ .0 (b .1) in
+    let i = and-eq-true-iff (leb (c .open1) mostStreams) _ .0 (g .1) in
+    let j = and-eq-true-iff (leb (c .count2) mostStreams) _ .0 (i .1) in
+    let k = and-eq-true-iff (leb (c .open3) mostStreams) _ .0 (j .1) in
+    let l = and-eq-true-iff (leb (c .open0) (c .count0)) _ .0 (k .1) in
     record {
       within = leb-true _ _ (a .0);
       credit-top = leb-true _ _ (d .0);
@@ -134,9 +134,9 @@ conn-test c h = simp (le-leb _ _ (h .within), le-leb _ _ (h .credit-top), le-leb
 pub fits-fact : (c : Conn) (t : List Entry) → fits c t ≡ true → Fits c t
 unfolding fits
 fits-fact c t h =
-    let a = and-true (eqb (length t) 192) _ h in
-    let b = and-true (allTo 192 (λ i. entryFits c i (entryAt t i))) _ (a .1) in
-    let d = and-true (eqb (c .total) (sumTo 192 (λ i. entryAt t i .end))) _ (b .1) in
+    let a = and-eq-true-iff (eqb (length t) 192) _ .0 h in
+    let b = and-eq-true-iff (allTo 192 (λ i. entryFits c i (entryAt t i))) _ .0 (a .1) in
+    let d = and-eq-true-iff (eqb (c .total) (sumTo 192 (λ i. entryAt t i .end))) _ .0 (b .1) in
     record {
       long = eqb-true _ _ (a .0);
       each = λ i l. entry-ok c i (entryAt t i) (all-at 192 (λ i. entryFits c i (entryAt t i)) (b .0) i l);

@@ -31,7 +31,8 @@ use Rattle.streams.specs.Frames.Event.{Got, Did}
 use Rattle.streams.specs.Frames.Call.{RaiseCredit, RaiseStream, RaiseCount, OpenNext, HandOut}
 use Rattle.streams.specs.Fits.{fits}
 use Rattle.accounts.specs.History.{State, handsOut, answerOf, after}
-use Rattle.accounts.proofs.Tests.{and-false, or-true, or-false, refuses, allows, Has, place-is, place-none, size-known}
+use Rattle.streams.proofs.Taken as streams
+use Rattle.accounts.proofs.Tests.{and-false, or-true, or-false, allows, Has, place-is, place-none, size-known}
 use Rattle.accounts.proofs.Fits.{EntryOk, ConnOk, Fits, Grows, kept}
 
 -- a property of both numbers is one of the chosen
@@ -115,15 +116,10 @@ pub record Taken (c : Conn) (e : Entry) (id end : ℕ) (fin : Bool) : Type 0 whe
   pub room : c .total + (end - e .end) ≤ c .credit
 
 pub taken : (c : Conn) (e : Entry) (id end : ℕ) (fin : Bool) → endsOf c e id end fin ≡ Accepted → Taken c e id end fin
-unfolding endsOf rule4 rule5
 taken c e id end fin h =
-    let a = refuses (rule1 (countOf c (id % 4)) id) StreamState _ (lit< tt) h in
-    let b = refuses (rule2 (countOf c (id % 4)) id) StreamLimit _ (lit< tt) (a .1) in
-    let d = refuses (rule3 (finalOf (e .size)) (e .end) end fin) FinalSize _ (lit< tt) (b .1) in
-    let f = refuses (ltb (e .credit) end) FlowControl _ (lit< tt) (d .1) in
-    let g = refuses (ltb (c .credit) (c .total + (end - e .end))) FlowControl Accepted (lit< tt) (f .1) in
-    let m = may (countOf c (id % 4)) id (a .0) (b .0) in
-    record { kind = m .0; below = m .1; size-free = d .0; within = ltb-false _ _ (f .0); room = ltb-false _ _ (g .0) }
+    let t = streams.taken c e id end fin h in
+    let m = may (countOf c (id % 4)) id (t .state) (t .limit) in
+    record { kind = m .0; below = m .1; size-free = t .size; within = t .within; room = t .room }
 
 pub count-top : (c : Conn) (ty : ℕ) → ConnOk c → countOf c ty ≤ 64
 count-top c zero k = k .count0-top
@@ -195,8 +191,8 @@ touch c t id f k = leaves c (openTo c id (c .total)) t f (open-grows c id (c .to
 block : (c : Conn) (t : List Entry) (id : ℕ) → Fits c t → blockedOf c id ≡ Accepted → Fits (openTo c id (c .total)) (set t (placeOf 0) (entryOf t 0))
 unfolding blockedOf
 block c t id f h =
-    let a = refuses (rule1 (countOf c (id % 4)) id) StreamState _ (lit< tt) h in
-    let b = refuses (rule2 (countOf c (id % 4)) id) StreamLimit Accepted (lit< tt) (a .1) in
+    let a = streams.passed (rule1 (countOf c (id % 4)) id) StreamState _ refl h in
+    let b = streams.passed (rule2 (countOf c (id % 4)) id) StreamLimit Accepted refl (a .1) in
     touch c t id f (open-below c id (c .total) (f .conn) (f .conn .within) (may (countOf c (id % 4)) id (a .0) (b .0) .1))
 
 send-below : (c : Conn) (id : ℕ) → sendingOf c id ≡ Accepted → id / 4 < countOf c (id % 4)
@@ -206,9 +202,9 @@ send-below c id h = go (decLe (countOf c (id % 4)) (id / 4))
     go : Dec (countOf c (id % 4) ≤ id / 4) → id / 4 < countOf c (id % 4)
     go (no l) = omega arith
     go (yes l) =
-        let a = refuses (eqb (id % 4) 2) StreamState _ (lit< tt) h in
-        let b = refuses ((eqb (id % 4) 1 || eqb (id % 4) 3) && leb (countOf c (id % 4)) (id / 4)) StreamState _ (lit< tt) (a .1) in
-        let d = refuses ((eqb (id % 4) 0 || eqb (id % 4) 2) && leb (countOf c (id % 4)) (id / 4)) StreamLimit Accepted (lit< tt) (b .1) in
+        let a = streams.passed (eqb (id % 4) 2) StreamState _ refl h in
+        let b = streams.passed ((eqb (id % 4) 1 || eqb (id % 4) 3) && leb (countOf c (id % 4)) (id / 4)) StreamState _ refl (a .1) in
+        let d = streams.passed ((eqb (id % 4) 0 || eqb (id % 4) 2) && leb (countOf c (id % 4)) (id / 4)) StreamLimit Accepted refl (b .1) in
         let x = or-false (eqb (id % 4) 1) (eqb (id % 4) 3) (and-false (eqb (id % 4) 1 || eqb (id % 4) 3) (leb (countOf c (id % 4)) (id / 4)) (b .0) (le-leb (countOf c (id % 4)) (id / 4) l)) in
         let y = or-false (eqb (id % 4) 0) (eqb (id % 4) 2) (and-false (eqb (id % 4) 0 || eqb (id % 4) 2) (leb (countOf c (id % 4)) (id / 4)) (d .0) (le-leb (countOf c (id % 4)) (id / 4) l)) in
         absurd (omega (arith, eqb-false (id % 4) 1 (x .0), eqb-false (id % 4) 3 (x .1), eqb-false (id % 4) 0 (y .0), eqb-false (id % 4) 2 (y .1)))
@@ -221,8 +217,8 @@ send c t id f h = touch c t id f (open-below c id (c .total) (f .conn) (f .conn 
 raised : (present new ceiling : ℕ) → raiseOf present new ceiling ≡ Accepted → (present < new) × (new ≤ ceiling)
 unfolding raiseOf
 raised present new ceiling h =
-    let a = refuses (ltb ceiling new) AboveCeiling _ (lit< tt) h in
-    let b = refuses (leb new present) NotAbove Accepted (lit< tt) (a .1) in
+    let a = streams.passed (ltb ceiling new) AboveCeiling _ refl h in
+    let b = streams.passed (leb new present) NotAbove Accepted refl (a .1) in
     (leb-false _ _ (b .0), ltb-false _ _ (a .0))
 
 limit : (c : Conn) (t : List Entry) (n a b : ℕ) → Fits c t → c .credit ≤ n → n ≤ mostCredit → (c .count0 ≤ a) × (a ≤ 64) → (c .count2 ≤ b) × (b ≤ 64) → Fits (limited c n a b) (set t (placeOf 0) (entryOf t 0))
@@ -270,8 +266,8 @@ not-no false e = sym e
 open-next : (c : Conn) (t : List Entry) (ty : ℕ) → Fits c t → openNextOf c ty ≡ Accepted → Fits (openTo c (4 * openedOf c ty + ty) (c .total)) (set t (placeOf 0) (entryOf t 0))
 unfolding openNextOf
 open-next c t ty f h =
-    let a = refuses (not (eqb ty 1 || eqb ty 3)) NotServed _ (lit< tt) h in
-    let b = leb-false 64 (openedOf c ty) (refuses (leb mostStreams (openedOf c ty)) AboveCeiling Accepted (lit< tt) (a .1) .0) in
+    let a = streams.passed (not (eqb ty 1 || eqb ty 3)) NotServed _ refl h in
+    let b = leb-false 64 (openedOf c ty) (streams.passed (leb mostStreams (openedOf c ty)) AboveCeiling Accepted refl (a .1) .0) in
     ⊎-elim (λ e. go b (inl (eqb-true ty 1 e))) (λ e. go b (inr (eqb-true ty 3 e))) (or-true _ _ (not-no _ (a .0)))
   where
     go : openedOf c ty < 64 → (ty ≡ 1) ⊎ (ty ≡ 3) → Fits (openTo c (4 * openedOf c ty + ty) (c .total)) (set t (placeOf 0) (entryOf t 0))
@@ -282,8 +278,8 @@ open-next c t ty f h =
 raise-has : (c : Conn) (e : Entry) (id n : ℕ) → ConnOk c → raiseStreamOf c e id n ≡ Accepted → Has id × (id / 4 < openedOf c (id % 4)) × (e .credit < n) × (n ≤ mostCredit)
 unfolding raiseStreamOf
 raise-has c e id n k h =
-    let a = refuses (eqb (id % 4) 3 || leb (openedOf c (id % 4)) (id / 4)) NotServed _ (lit< tt) h in
-    let b = refuses (isKnown (finalOf (e .size))) SizeKnown _ (lit< tt) (a .1) in
+    let a = streams.passed (eqb (id % 4) 3 || leb (openedOf c (id % 4)) (id / 4)) NotServed _ refl h in
+    let b = streams.passed (isKnown (finalOf (e .size))) SizeKnown _ refl (a .1) in
     let d = raised (e .credit) n mostCredit (b .1) in
     let w = or-false (eqb (id % 4) 3) (leb (openedOf c (id % 4)) (id / 4)) (a .0) in
     let ty = eqb-false (id % 4) 3 (w .0) in
@@ -391,7 +387,7 @@ passes s ev h = go (handsOut ev) h
     go : (b : Bool) → (b ⇒ ruledOf (s .conn) (entryOf (s .table) (streamOf ev)) ev ∣ not (fits (s .conn) (s .table)) ⇒ DoesNotFit ∣ not (isOpen (s .conn .mark)) ⇒ Closed ∣ ruledOf (s .conn) (entryOf (s .table) (streamOf ev)) ev) ≡ Accepted
         → ruledOf (s .conn) (entryOf (s .table) (streamOf ev)) ev ≡ Accepted
     go true e = e
-    go false e = refuses (not (isOpen (s .conn .mark))) Closed _ (lit< tt) (refuses (not (fits (s .conn) (s .table))) DoesNotFit _ (lit< tt) e .1) .1
+    go false e = streams.passed (not (isOpen (s .conn .mark))) Closed _ refl (streams.passed (not (fits (s .conn) (s .table))) DoesNotFit _ refl e .1) .1
 
 event : (c : Conn) (t : List Entry) (ev : Event) → Fits c t → ruledOf c (entryOf t (streamOf ev)) ev ≡ Accepted
     → Fits (connAfter c (entryOf t (streamOf ev)) ev) (set t (placeOf (streamOf ev)) (entryAfter (entryOf t (streamOf ev)) ev))

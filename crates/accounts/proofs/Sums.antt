@@ -2,7 +2,7 @@
 -- Assumes nothing.
 use Prim.Native.Nat.{ℕ, zero, suc, _+_, _*_, _/_, _%_, _≤_, _<_}
 use mathlib.Core.Path.{_≡_, refl, _∙_, ap}
-use mathlib.Core.Bool.{Bool, true}
+use mathlib.Core.Bool.{Bool, true, and-eq-true-iff}
 use native.Mathlib.Omega.{arith}
 use native.Mathlib.Decide.{ℕ-discrete, le-ind}
 use native.Mathlib.Nat.{add-suc}
@@ -11,7 +11,7 @@ use borrow.Author.Tests.{eq-eqb, ne-eqb}
 use Rattle.answers.specs.Choice.{_⇒_∣_}
 use Rattle.streams.specs.Entry.{placeOf}
 use Rattle.streams.specs.Fits.{sumTo, allTo}
-use Rattle.accounts.proofs.Tests.{and-true, place-is}
+use Rattle.accounts.proofs.Tests.{place-is}
 
 pub sum-same : (n : ℕ) (f g : ℕ → ℕ) → ((i : ℕ) → i < n → f i ≡ g i) → sumTo n f ≡ sumTo n g
 unfolding sumTo
@@ -86,10 +86,10 @@ sum-streams g =
 pub all-at : (n : ℕ) (p : ℕ → Bool) → allTo n p ≡ true → (i : ℕ) → i < n → p i ≡ true
 unfolding allTo
 all-at zero p e i l = absurd (omega arith)
-all-at (suc n) p e i l = go (ℕ-discrete i n) (all-at n p (and-true (allTo n p) (p n) e .0) i)
+all-at (suc n) p e i l = go (ℕ-discrete i n) (all-at n p (and-eq-true-iff (allTo n p) (p n) .0 e .0) i)
   where
     go : Dec (i ≡ n) → (i < n → p i ≡ true) → p i ≡ true
-    go (yes s) ih = ap p s ∙ and-true (allTo n p) (p n) e .1
+    go (yes s) ih = ap p s ∙ and-eq-true-iff (allTo n p) (p n) .0 e .1
     go (no s) ih = ih (omega arith)
 
 pub all-of : (n : ℕ) (p : ℕ → Bool) → ((i : ℕ) → i < n → p i ≡ true) → allTo n p ≡ true

@@ -2,7 +2,7 @@
 -- Assumes nothing.
 use Prim.Native.Nat.{ℕ, _+_, _-_, _*_, _/_, _%_, _^_, _≤_, _<_}
 use mathlib.Core.Path.{_≡_, refl, sym, _∙_, ap}
-use mathlib.Core.Bool.{Bool, true, false, _&&_, _||_}
+use mathlib.Core.Bool.{Bool, true, false, _&&_, _||_, and-eq-true-iff}
 use mathlib.Core.Logic.{_⊎_, inl, inr}
 use native.Mathlib.Omega.{arith}
 use lib.Dec.{ltb, eqb}
@@ -17,10 +17,6 @@ use Rattle.streams.specs.Entry.{listed, placeOf, finalOf}
 use Rattle.streams.specs.Frames.{accepts}
 
 -- ---- connectives
-
-pub and-true : (a b : Bool) → a && b ≡ true → (a ≡ true) × (b ≡ true)
-and-true true b e = (refl, e)
-and-true false b e = let z : _≡_ {A = ℕ} 0 1 = cc in absurd (omega arith)
 
 pub and-false : (a b : Bool) → a && b ≡ false → b ≡ true → a ≡ false
 and-false true b e h = sym h ∙ e
@@ -46,14 +42,7 @@ not-both b p q = let z : _≡_ {A = ℕ} 0 1 = cc in omega arith
 pub accepts-true : (a : Answer) → accepts a ≡ true → a ≡ Accepted
 accepts-true a e = one-case a Accepted (eqb-true (numberOf a) 0 e)
 
-pub accepts-it : (a : Answer) → a ≡ Accepted → accepts a ≡ true
-accepts-it a e = eq-eqb (numberOf a) 0 (ap numberOf e)
-
--- a choice that accepts, one of whose sides refuses, went to the other side
-pub refuses : (b : Bool) (a x : Answer) → 0 < numberOf a → (b ⇒ a ∣ x) ≡ Accepted → (b ≡ false) × (x ≡ Accepted)
-refuses true a x l e = absurd (omega (arith, ap numberOf e))
-refuses false a x l e = (refl, e)
-
+-- a choice that accepts, whose other side refuses, went to the first
 pub allows : (b : Bool) (x a : Answer) → 0 < numberOf a → (b ⇒ x ∣ a) ≡ Accepted → (b ≡ true) × (x ≡ Accepted)
 allows true x a l e = (refl, e)
 allows false x a l e = absurd (omega (arith, ap numberOf e))
@@ -70,7 +59,7 @@ has-listed id h = simp (lt-ltb (id % 4) 3 (h .0), lt-ltb (id / 4) 64 (h .1))
 
 pub listed-has : (id : ℕ) → listed id ≡ true → Has id
 unfolding listed
-listed-has id e = let a = and-true (ltb (id % 4) 3) (ltb (id / 4) 64) e in (ltb-true _ _ (a .0), ltb-true _ _ (a .1))
+listed-has id e = let a = and-eq-true-iff (ltb (id % 4) 3) (ltb (id / 4) 64) .0 e in (ltb-true _ _ (a .0), ltb-true _ _ (a .1))
 
 pub place-is : (id : ℕ) → Has id → placeOf id ≡ 64 * (id % 4) + id / 4
 unfolding placeOf
