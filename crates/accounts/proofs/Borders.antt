@@ -1,7 +1,7 @@
 -- The borders hold by computation.
 -- Assumes nothing.
 use mathlib.Core.Path.{refl}
-use Rattle.streams.specs.Entry.{finalOf, reached}
+use Rattle.streams.specs.Entry.{finalOf}
 use Rattle.streams.specs.Conn.{upTo, openTo}
 use Rattle.streams.specs.Opening.{openingOf}
 use Rattle.streams.specs.Rules.{rule1, rule2, blockedOf, sendingOf}

@@ -12,7 +12,7 @@ use lib.Seq.{set-getD}
 use lib.Dec.{ltb, leb, eqb, lit<}
 use borrow.Author.Tests.{le-leb, eq-eqb, ltb-false, leb-false, eqb-true, eqb-false}
 use Rattle.answers.specs.Choice.{_⇒_∣_}
-use Rattle.answers.specs.declared.Answer.the-variants.{Accepted, FlowControl, StreamLimit, StreamState, FinalSize, Closed, NotAbove, AboveCeiling, NotServed, SizeKnown, DoesNotFit}
+use Rattle.answers.specs.declared.Answer.the-variants.{Accepted, StreamLimit, StreamState, Closed, NotAbove, AboveCeiling, NotServed, SizeKnown, DoesNotFit}
 use Rattle.streams.specs.declared.Conn.{Conn}
 use Rattle.streams.specs.declared.Entry.{Entry}
 use Rattle.streams.specs.declared.Final.{Final}
@@ -24,7 +24,7 @@ use Rattle.streams.specs.declared.Space.the-variants.{Initial, Handshake, Appli
 use Rattle.streams.specs.declared.View.the-variants.{Ends, Blocks, Sends, Acks, Closes, Plain}
 use Rattle.streams.specs.Entry.{mostStreams, mostCredit, placeOf, finalOf, fresh, reached, entryOf}
 use Rattle.streams.specs.Conn.{isOpen, openedOf, countOf, initOf, markedAs, upTo, openTo, limited, numbered}
-use Rattle.streams.specs.Rules.{rule1, rule2, against, rule3, rule4, rule5, endsOf, blockedOf, sendingOf}
+use Rattle.streams.specs.Rules.{rule1, rule2, against, rule3, endsOf, blockedOf, sendingOf}
 use Rattle.streams.specs.Calls.{isKnown, raiseOf, raiseStreamOf, raiseCountOf, openNextOf}
 use Rattle.streams.specs.Frames.{Event, streamOf, ruledOf, handedOut, connAfter, entryAfter}
 use Rattle.streams.specs.Frames.Event.{Got, Did}

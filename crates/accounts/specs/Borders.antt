@@ -1,7 +1,7 @@
 -- Document 01's rules of streams, local calls and 120 at their borders, each from both sides: they hold the definitions to the document. Beside each, its sentence.
 use Prim.Native.Nat.{ℕ, _-_, _^_}
 use mathlib.Core.Path.{_≡_}
-use mathlib.Core.Bool.{Bool, true, false}
+use mathlib.Core.Bool.{true, false}
 use mathlib.Core.List.{List, [], _∷_, map}
 use Rattle.answers.specs.Answers.{numberOf}
 use Rattle.answers.specs.declared.Answer.the-variants.{AboveCeiling}
@@ -18,7 +18,7 @@ use Rattle.streams.specs.Entry.{fresh}
 use Rattle.streams.specs.Opening.{openedConn, openingOf}
 use Rattle.streams.specs.Frames.{Call, ruledOf, connAfter, callOf}
 use Rattle.streams.specs.Frames.Call.{RaiseCredit, RaiseStream, RaiseCount, OpenNext, HandOut}
-use Rattle.streams.specs.Frames.Event.{Got, Did}
+use Rattle.streams.specs.Frames.Event.{Got}
 use Rattle.streams.specs.Fits.{entryFits, connFits, summedOf}
 
 -- a connection with counts 4 and 4, stream credits 16, connection credit 40, so many streams of each type open, a next number of the last space, and a mark
