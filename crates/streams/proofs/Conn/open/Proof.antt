@@ -1,5 +1,6 @@
 -- `streams::Conn::open` meets its contract: the tests are those of the definition, in its order.
 -- Assumes nothing.
+use native.Mathlib.Omega.{arith}
 use borrow.Author.Needs.{needs}
 use borrow.Author.Tests.{lt-ltb, le-ltb}
 use Rattle.streams.specs.Opening.{openingOf}
@@ -20,26 +21,27 @@ returns-3 c = rw (le-ltb _ _ (c .before .before .if1 .left), le-ltb _ _ (c .befo
 
 returns-4 : tie.Need-returns-4
 unfolding openingOf
-returns-4 c = rw (le-ltb _ _ (c .before .before .before .if1 .left), le-ltb _ _ (c .before .before .if2 .left), le-ltb _ _ (c .before .if3 .left), lt-ltb _ _ (c .if4 .taken))
+returns-4 c = let a = c .before .before .before .before .args in rw (le-ltb _ _ (c .before .before .before .if1 .left), le-ltb _ _ (c .before .before .if2 .left), le-ltb _ _ (c .before .if3 .left), lt-ltb 64 (a .count0) (omega arith))
 
 returns-5 : tie.Need-returns-5
 unfolding openingOf
-returns-5 c = rw (le-ltb _ _ (c .before .before .before .before .if1 .left), le-ltb _ _ (c .before .before .before .if2 .left), le-ltb _ _ (c .before .before .if3 .left), le-ltb _ _ (c .before .if4 .left), lt-ltb _ _ (c .if5 .taken))
+returns-5 c = let a = c .before .before .before .before .before .args in rw (le-ltb _ _ (c .before .before .before .before .if1 .left), le-ltb _ _ (c .before .before .before .if2 .left), le-ltb _ _ (c .before .before .if3 .left), le-ltb 64 (a .count0) (omega arith), lt-ltb _ _ (c .if5 .taken))
 
 returns-6 : tie.Need-returns-6
 unfolding openingOf
-returns-6 c = rw (le-ltb _ _ (c .before .before .before .before .before .if1 .left), le-ltb _ _ (c .before .before .before .before .if2 .left), le-ltb _ _ (c .before .before .before .if3 .left), le-ltb _ _ (c .before .before .if4 .left), le-ltb _ _ (c .before .if5 .left), lt-ltb _ _ (c .if6 .taken))
+returns-6 c = let a = c .before .before .before .before .before .before .args in rw (le-ltb _ _ (c .before .before .before .before .before .if1 .left), le-ltb _ _ (c .before .before .before .before .if2 .left), le-ltb _ _ (c .before .before .before .if3 .left), le-ltb 64 (a .count0) (omega arith), le-ltb _ _ (c .before .if5 .left), lt-ltb _ _ (c .if6 .taken))
 
 returns-7 : tie.Need-returns-7
 unfolding openingOf
 returns-7 c =
     let k = c .before in
+    let a = k .before .before .before .before .before .before .args in
     rw (
       c .fresh .ensures,
       le-ltb _ _ (k .before .before .before .before .before .if1 .left),
       le-ltb _ _ (k .before .before .before .before .if2 .left),
       le-ltb _ _ (k .before .before .before .if3 .left),
-      le-ltb _ _ (k .before .before .if4 .left),
+      le-ltb 64 (a .count0) (omega arith),
       le-ltb _ _ (k .before .if5 .left),
       le-ltb _ _ (k .if6 .left),
     )

@@ -2,6 +2,7 @@
 -- Assumes nothing.
 use borrow.Author.Needs.{needs}
 use mathlib.Core.Path.{sym}
+use native.Mathlib.Omega.{arith}
 use borrow.Author.Tests.{lt-ltb, le-ltb}
 use Rattle.streams.specs.Conn.{numbered}
 use Rattle.streams.specs.Calls.{handOutOf}
@@ -11,7 +12,7 @@ use Rattle.streams.proofs.calls.hand_out.Tie as tie
 
 returns : tie.Need-returns
 unfolding handedOutOf handOutOf
-returns c = rw (sym (c .before .next-of .ensures), lt-ltb _ _ (c .if1 .taken))
+returns c = rw (sym (c .before .next-of .ensures), lt-ltb 4611686018427387903 (c .before .next-of .result) (omega arith))
 
 returns-2 : tie.Need-returns-2
 unfolding handedOutOf handOutOf numbered

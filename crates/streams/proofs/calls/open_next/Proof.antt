@@ -25,7 +25,7 @@ unfolding openedNextOf callOf ruledOf openNextOf
 returns-3 c =
     let ty = c .before .before .before .before .before .args .ty in
     let serves : eqb ty 1 || eqb ty 3 ≡ true = ⊎-elim (λ w. rw (ne-eqb _ _ (w .0 .taken), eq-eqb _ _ (w .1 .left))) (λ w. rw (eq-eqb _ _ (w .left))) (c .before .before .if2 .came) in
-    rw (sym (c .before .before .before .before .is-open .ensures) ∙ not-false _ (c .before .before .before .if1 .left), serves, sym (c .before .opened-of .ensures), le-leb _ _ (c .if4 .taken))
+    rw (sym (c .before .before .before .before .is-open .ensures) ∙ not-false _ (c .before .before .before .if1 .left), serves, sym (c .before .opened-of .ensures), le-leb 64 (c .before .opened-of .result) (omega arith))
 
 add-id : tie.Need-add-id
 add-id c = record { fits = ⊎-elim (λ w. omega arith) (λ w. omega arith) (c .before .before .if2 .came) }
@@ -35,7 +35,7 @@ unfolding openedNextOf callOf ruledOf openNextOf connAfter
 returns-4 c =
     let ty = c .before .before .before .before .before .before .args .ty in
     let serves : eqb ty 1 || eqb ty 3 ≡ true = ⊎-elim (λ w. rw (ne-eqb _ _ (w .0 .taken), eq-eqb _ _ (w .1 .left))) (λ w. rw (eq-eqb _ _ (w .left))) (c .before .before .before .if2 .came) in
-    rw (c .open-to .ensures, sym (c .before .before .before .before .before .is-open .ensures) ∙ not-false _ (c .before .before .before .before .if1 .left), serves, sym (c .before .before .opened-of .ensures), lt-leb _ _ (c .before .if4 .left))
+    rw (c .open-to .ensures, sym (c .before .before .before .before .before .is-open .ensures) ∙ not-false _ (c .before .before .before .before .if1 .left), serves, sym (c .before .before .opened-of .ensures), lt-leb 64 (c .before .before .opened-of .result) (omega arith))
 
 pub open-next-spec : {M : Type 1} → statement M
 open-next-spec =

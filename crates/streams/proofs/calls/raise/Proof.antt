@@ -1,5 +1,6 @@
 -- `streams::calls::raise` meets its contract: the tests are those of the definition, in its order.
 -- Assumes nothing.
+use native.Mathlib.Omega.{arith}
 use borrow.Author.Tests.{lt-ltb, le-ltb, le-leb, lt-leb}
 use Rattle.streams.specs.Calls.{raiseOf}
 use Rattle.streams.proofs.calls.raise.Statement.{statement}
@@ -11,11 +12,11 @@ returns c = rw (lt-ltb _ _ (c .if1 .taken))
 
 returns-2 : tie.Need-returns-2
 unfolding raiseOf
-returns-2 c = rw (le-ltb _ _ (c .before .if1 .left), le-leb _ _ (c .if2 .taken))
+returns-2 c = let a = c .before .before .args in rw (le-ltb _ _ (c .before .if1 .left), le-leb (a .new) (a .present) (omega arith))
 
 returns-3 : tie.Need-returns-3
 unfolding raiseOf
-returns-3 c = rw (le-ltb _ _ (c .before .if1 .left), lt-leb _ _ (c .if2 .left))
+returns-3 c = let a = c .before .before .args in rw (le-ltb _ _ (c .before .if1 .left), lt-leb (a .new) (a .present) (omega arith))
 
 pub raise-spec : {M : Type 1} → statement M
 raise-spec =

@@ -1,5 +1,6 @@
 -- `streams::check::counts_fit` meets its contract: each test refuses what a test of the definition refuses.
 -- Assumes nothing.
+use mathlib.Core.Path.{refl}
 use borrow.Author.Tests.{le-leb, lt-leb}
 use Rattle.streams.specs.Fits.{countsFit}
 use Rattle.streams.proofs.check.counts_fit.Statement.{statement}
@@ -27,7 +28,7 @@ returns-5 c = simp (le-leb _ _ (c .before .before .before .before .before .befor
 
 returns-6 : tie.Need-returns-6
 unfolding countsFit
-returns-6 c = rw (le-leb _ _ (c .before .before .before .before .before .before .before .before .before .if1 .left), le-leb _ _ (c .before .before .before .before .before .before .before .if2 .left), le-leb _ _ (c .before .before .before .before .before .if3 .left), le-leb _ _ (c .before .before .before .if4 .left), le-leb _ _ (c .before .if5 .left))
+returns-6 c = rw (le-leb _ _ (c .before .before .before .before .before .before .before .before .before .if1 .left), le-leb _ _ (c .before .before .before .before .before .before .before .if2 .left), le-leb _ _ (c .before .before .before .before .before .if3 .left), le-leb _ _ (c .before .before .before .if4 .left), le-leb _ _ (c .before .if5 .left)) refl
 
 pub counts-fit-spec : {M : Type 1} → statement M
 counts-fit-spec =

@@ -2,6 +2,7 @@
 -- Assumes nothing.
 use borrow.Author.Needs.{needs}
 use mathlib.Core.Path.{sym, _∙_}
+use native.Mathlib.Omega.{arith}
 use borrow.Author.Tests.{le-leb, lt-leb}
 use Rattle.streams.specs.Frames.{ruledOf, connAfter, entryAfter, judgedOf}
 use Rattle.streams.proofs.frame.judge.Statement.{statement}
@@ -9,7 +10,7 @@ use Rattle.streams.proofs.frame.judge.Tie as tie
 
 returns : tie.Need-returns
 unfolding judgedOf ruledOf connAfter entryAfter
-returns c = c .settled3 .ensures ∙ rw (c .before .before .before .before .view4 .given .1, sym (c .before .before .next-of .ensures), le-leb _ _ (c .before .if1 .taken))
+returns c = c .settled3 .ensures ∙ rw (c .before .before .before .before .view4 .given .1, sym (c .before .before .next-of .ensures), le-leb (c .before .before .next-of .result) (c .before .before .before .before .view4 .given .0 .1 .0) (omega arith))
 
 returns-2 : tie.Need-returns-2
 returns-2 c = c .judge-ends .ensures ∙ rw (c .before .before .view .given .1)
@@ -24,7 +25,7 @@ returns-4 c = c .settled2 .ensures ∙ rw (c .before .before .before .before .vi
 
 returns-5 : tie.Need-returns-5
 unfolding judgedOf ruledOf connAfter entryAfter
-returns-5 c = c .settled4 .ensures ∙ rw (c .before .before .before .before .view4 .given .1, sym (c .before .before .next-of .ensures), lt-leb _ _ (c .before .if1 .left))
+returns-5 c = c .settled4 .ensures ∙ rw (c .before .before .before .before .view4 .given .1, sym (c .before .before .next-of .ensures), lt-leb (c .before .before .next-of .result) (c .before .before .before .before .view4 .given .0 .1 .0) (omega arith))
 
 returns-6 : tie.Need-returns-6
 unfolding judgedOf ruledOf connAfter entryAfter

@@ -1,7 +1,7 @@
 -- `streams::frame::judge_ends` meets its contract: no rule is against it just where the answer accepts; rule 5 then leaves room for the new total.
 -- Assumes nothing.
 use borrow.Author.Needs.{needs}
-use mathlib.Core.Path.{sym, _∙_}
+use mathlib.Core.Path.{refl, sym, _∙_}
 use native.Mathlib.Omega.{arith}
 use Prim.Native.Nat.{_<_, _^_}
 use Rattle.answers.proofs.Numbers.{other}
@@ -24,7 +24,7 @@ add-open-to c =
 
 returns-2 : tie.Need-returns-2
 unfolding judgedOf settledOf ruledOf connAfter entryAfter
-returns-2 c = rw (c .after .ensures, c .before .open-to .ensures, c .before .before .before .growth .ensures, sym (c .before .before .before .before .before .before .ends .ensures) ∙ c .before .before .before .before .enum-told .given .1)
+returns-2 c = rw (c .after .ensures, c .before .open-to .ensures, c .before .before .before .growth .ensures, sym (c .before .before .before .before .before .before .ends .ensures) ∙ c .before .before .before .before .enum-told .given .1) refl
 
 pub judge-ends-spec : {M : Type 1} → statement M
 judge-ends-spec =

@@ -1,6 +1,7 @@
 -- `streams::frame::view` meets its contract: each arm of the match is that of the definition; the rest asks nothing.
 -- Assumes nothing.
 use borrow.Author.Needs.{needs}
+use mathlib.Core.Path.{refl}
 use Rattle.streams.proofs.Others.{plain}
 use Rattle.streams.proofs.frame.view.Statement.{statement}
 use Rattle.streams.proofs.frame.view.Tie as tie
@@ -12,7 +13,7 @@ returns-2 : tie.Need-returns-2
 returns-2 c = rw (c .space2 .ensures, c .before .before .frame2 .given .1)
 
 returns-3 : tie.Need-returns-3
-returns-3 c = rw (c .before .frame3 .given .1)
+returns-3 c = rw (c .before .frame3 .given .1) refl
 
 returns-4 : tie.Need-returns-4
 returns-4 c = rw (c .before .frame4 .given .1)

@@ -1,7 +1,7 @@
 -- `streams::rules::ends` meets its contract: the rules are asked in the order of the definition.
 -- Assumes nothing.
 use borrow.Author.Needs.{needs}
-use mathlib.Core.Path.{sym, _∙_}
+use mathlib.Core.Path.{refl, sym, _∙_}
 use Rattle.streams.specs.Rules.{endsOf}
 use Rattle.streams.proofs.rules.ends.Statement.{statement}
 use Rattle.streams.proofs.rules.ends.Tie as tie
@@ -16,7 +16,7 @@ returns-2 c = rw (sym (c .before .before .before .before .count-of .ensures), sy
 
 returns-3 : tie.Need-returns-3
 unfolding endsOf
-returns-3 c = rw (sym (c .before .before .before .before .before .before .before .count-of .ensures), sym (c .before .before .before .before .before .before .rule1 .ensures) ∙ c .before .before .before .before .before .if1 .left, sym (c .before .before .before .before .rule2 .ensures) ∙ c .before .before .before .if2 .left, sym (c .before .before .known .ensures), sym (c .before .rule3 .ensures) ∙ c .if3 .taken)
+returns-3 c = rw (sym (c .before .before .before .before .before .before .before .count-of .ensures), sym (c .before .before .before .before .before .before .rule1 .ensures) ∙ c .before .before .before .before .before .if1 .left, sym (c .before .before .before .before .rule2 .ensures) ∙ c .before .before .before .if2 .left, sym (c .before .before .known .ensures), sym (c .before .rule3 .ensures) ∙ c .if3 .taken) refl
 
 returns-4 : tie.Need-returns-4
 unfolding endsOf

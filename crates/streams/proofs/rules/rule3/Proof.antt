@@ -4,6 +4,7 @@ use borrow.Author.Needs.{needs}
 use mathlib.Core.Path.{_≡_, sym}
 use mathlib.Core.Bool.{true, false, _&&_, or-true, or-false}
 use mathlib.Core.Logic.{⊎-elim}
+use native.Mathlib.Omega.{arith}
 use lib.Dec.{ltb}
 use borrow.Author.Tests.{lt-ltb, le-ltb}
 use Rattle.streams.specs.Rules.{against, rule3}
@@ -12,7 +13,7 @@ use Rattle.streams.proofs.rules.rule3.Tie as tie
 
 returns : tie.Need-returns
 unfolding rule3
-returns c = let a = c .before .before .args in rw (c .before .if1 .taken, lt-ltb _ _ (c .if2 .taken)) (sym (or-true (against (a .known) (a .end) true)))
+returns c = let a = c .before .before .args in rw (c .before .if1 .taken, lt-ltb (a .end) (a .furthest) (omega arith)) (sym (or-true (against (a .known) (a .end) true)))
 
 returns-2 : tie.Need-returns-2
 unfolding rule3
@@ -22,14 +23,14 @@ returns-3 : tie.Need-returns-3
 unfolding rule3
 returns-3 c =
     let a = c .before .before .before .before .before .before .args in
-    let low : a .fin && ltb (a .end) (a .furthest) ≡ false = ⊎-elim (λ w. rw (w .0 .taken, le-ltb _ _ (w .1 .left))) (λ w. rw (w .left)) (c .before .before .before .before .before .if1 .came) in
+    let low : a .fin && ltb (a .end) (a .furthest) ≡ false = ⊎-elim (λ w. rw (w .0 .taken, le-ltb (a .end) (a .furthest) (omega (arith, w .1 .left)))) (λ w. rw (w .left)) (c .before .before .before .before .before .if1 .came) in
     rw (low, c .before .before .before .known .given .1, le-ltb _ _ (c .before .if3 .left), c .if4 .taken) (sym (or-false _))
 
 returns-4 : tie.Need-returns-4
 unfolding rule3
 returns-4 c =
     let a = c .before .before .before .args in
-    let low : a .fin && ltb (a .end) (a .furthest) ≡ false = ⊎-elim (λ w. rw (w .0 .taken, le-ltb _ _ (w .1 .left))) (λ w. rw (w .left)) (c .before .before .if1 .came) in
+    let low : a .fin && ltb (a .end) (a .furthest) ≡ false = ⊎-elim (λ w. rw (w .0 .taken, le-ltb (a .end) (a .furthest) (omega (arith, w .1 .left)))) (λ w. rw (w .left)) (c .before .before .if1 .came) in
     rw (low, c .enum-told .given .1)
 
 returns-5 : tie.Need-returns-5
