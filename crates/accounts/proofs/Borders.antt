@@ -6,13 +6,16 @@ use Rattle.streams.specs.Conn.{upTo, openTo}
 use Rattle.streams.specs.Opening.{openingOf}
 use Rattle.streams.specs.Rules.{rule1, rule2, blockedOf, sendingOf}
 use Rattle.streams.specs.Calls.{raiseOf, raiseStreamOf, raiseCountOf, openNextOf, handOutOf}
-use Rattle.streams.specs.Frames.{ruledOf, connAfter, callOf}
+use Rattle.streams.specs.Frames.{endOf, ruledOf, connAfter, callOf}
 use Rattle.streams.specs.Fits.{isFresh, entryFits, limitsFit, countsFit, connFits, summedOf}
 use Rattle.accounts.specs.Borders.{Borders}
 
 pub borders : Borders
-unfolding finalOf upTo openTo openingOf rule1 rule2 blockedOf sendingOf raiseOf raiseStreamOf raiseCountOf openNextOf handOutOf ruledOf connAfter callOf isFresh entryFits limitsFit countsFit connFits summedOf
+unfolding endOf finalOf upTo openTo openingOf rule1 rule2 blockedOf sendingOf raiseOf raiseStreamOf raiseCountOf openNextOf handOutOf ruledOf connAfter callOf isFresh entryFits limitsFit countsFit connFits summedOf
 borders = record {
+  views = refl;
+  spaces = refl;
+  spaces-ecn = refl;
   blocked = refl;
   sending = refl;
   opens-ends = refl;

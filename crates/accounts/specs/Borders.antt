@@ -5,6 +5,8 @@ use mathlib.Core.Bool.{true, false}
 use mathlib.Core.List.{List, [], _∷_, map}
 use Rattle.answers.specs.Answers.{numberOf}
 use Rattle.answers.specs.declared.Answer.the-variants.{AboveCeiling}
+use Rattle.frames.specs.declared.Kind.the-variants.{Initial as Initial', Handshake as Handshake', ZeroRtt, OneRtt}
+use Rattle.frames.specs.declared.Frame.the-variants.{Ack, AckEcn, ResetStream, StopSending, Stream, MaxData, MaxStreamData, StreamDataBlocked, ConnectionClose, ApplicationClose}
 use Rattle.streams.specs.declared.Conn.{Conn}
 use Rattle.streams.specs.declared.Entry.{Entry}
 use Rattle.streams.specs.declared.Mark.{Mark}
@@ -13,10 +15,10 @@ use Rattle.streams.specs.declared.Opened.the-variants.{As, Refused}
 use Rattle.streams.specs.declared.Space.the-variants.{Initial, Handshake, Application}
 use Rattle.streams.specs.declared.Summed.the-variants.{To, Unfit}
 use Rattle.streams.specs.declared.View.{View}
-use Rattle.streams.specs.declared.View.the-variants.{Ends, Blocks, Sends, Acks}
+use Rattle.streams.specs.declared.View.the-variants.{Ends, Blocks, Sends, Acks, Closes, Plain}
 use Rattle.streams.specs.Entry.{fresh}
 use Rattle.streams.specs.Opening.{openedConn, openingOf}
-use Rattle.streams.specs.Frames.{Call, ruledOf, connAfter, callOf}
+use Rattle.streams.specs.Frames.{Call, viewOf, ruledOf, connAfter, callOf}
 use Rattle.streams.specs.Frames.Call.{RaiseCredit, RaiseStream, RaiseCount, OpenNext, HandOut}
 use Rattle.streams.specs.Frames.Event.{Got}
 use Rattle.streams.specs.Fits.{entryFits, connFits, summedOf}
@@ -37,6 +39,12 @@ abbrev pub called : Conn → Entry → List Call → List ℕ
 called c e l = map (λ k. numberOf (callOf c e k)) l
 
 pub record Borders : Type 0 where
+  -- which frame asks what: each that names a stream or acknowledges, the two that close, and one that asks nothing
+  pub views : map (viewOf ZeroRtt) (StopSending 8 1 ∷ MaxStreamData 8 1 ∷ StreamDataBlocked 8 1 ∷ ResetStream 8 1 5 ∷ Stream 8 2 true 0 3 ∷ ConnectionClose 1 0 0 0 ∷ ApplicationClose 1 0 0 ∷ MaxData 1 ∷ [])
+      ≡ Sends 8 ∷ Sends 8 ∷ Blocks 8 ∷ Ends 8 5 true ∷ Ends 8 5 true ∷ Closes ∷ Closes ∷ Plain ∷ []
+  -- "Three spaces: Initial, Handshake, and one for 0-RTT with 1-RTT"
+  pub spaces : map (λ kind. viewOf kind (Ack 7 0 0 0 0)) (Initial' ∷ Handshake' ∷ ZeroRtt ∷ OneRtt ∷ []) ≡ Acks Initial 7 ∷ Acks Handshake 7 ∷ Acks Application 7 ∷ Acks Application 7 ∷ []
+  pub spaces-ecn : map (λ kind. viewOf kind (AckEcn 7 0 0 0 0 1 2 3)) (Initial' ∷ Handshake' ∷ ZeroRtt ∷ OneRtt ∷ []) ≡ Acks Initial 7 ∷ Acks Handshake 7 ∷ Acks Application 7 ∷ Acks Application 7 ∷ []
   -- "STREAM_DATA_BLOCKED: rules 1 and 2": types 0 and 2 by their counts; type 1 by what we opened; type 3 never
   pub blocked : heard (bench 0 1 0 1 0 Open) (Blocks 12 ∷ Blocks 16 ∷ Blocks 14 ∷ Blocks 18 ∷ Blocks 1 ∷ Blocks 5 ∷ Blocks 3 ∷ []) ≡ 0 ∷ 4 ∷ 0 ∷ 4 ∷ 0 ∷ 5 ∷ 5 ∷ []
   -- "STOP_SENDING and MAX_STREAM_DATA: type 2 is 5, type 1 or 3 not opened by us is 5, then rule 2 for type 0"

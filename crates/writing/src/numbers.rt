@@ -25,7 +25,7 @@ pub fn size(n: u8, a: u64, b: u64, c: u64, d: u64) -> usize
 }
 
 // Writes a number that is in range at a place with room for it, or nothing.
-pub fn put_one(out: &mut [u8], at: usize, there: bool, v: u64) -> usize
+pub(crate) fn put_one(out: &mut [u8], at: usize, there: bool, v: u64) -> usize
     requires { ⌜ (v < 2 ^ 62) × (at + length (bytesIf there v) ≤ length (now out)) ⌝ }
     ensures { λ r. ⌜ (r ≡ at + length (bytesIf there v)) × (now (out .exit) ≡ sets (now (out .entry)) at (bytesIf there v)) ⌝ }
 {
@@ -38,7 +38,7 @@ pub fn put_one(out: &mut [u8], at: usize, there: bool, v: u64) -> usize
     at
 }
 
-pub fn put(out: &mut [u8], at: usize, n: u8, a: u64, b: u64, c: u64, d: u64) -> usize
+pub(crate) fn put(out: &mut [u8], at: usize, n: u8, a: u64, b: u64, c: u64, d: u64) -> usize
     requires { ⌜ (inRange (a ∷ b ∷ c ∷ d ∷ []) ≡ true) × (at + length (fourBytes n a b c d) ≤ length (now out)) ⌝ }
     ensures { λ r. ⌜ (r ≡ at + length (fourBytes n a b c d)) × (now (out .exit) ≡ sets (now (out .entry)) at (fourBytes n a b c d)) ⌝ }
 {

@@ -88,7 +88,7 @@ fn put_identity(out: &mut [u8], at: usize, s: &[u8], from: usize, len: usize, to
 }
 
 // How many bytes stand between the numbers of a frame.
-pub fn size(tail: Tail, p: Parts, s: &[u8]) -> usize
+pub(crate) fn size(tail: Tail, p: Parts, s: &[u8]) -> usize
     requires { ⌜ Bounded (length (now s)) tail p ⌝ }
     ensures { λ r. ⌜ (r ≡ length (bodyBytes tail (p .len) (bodyOf (now (s .entry)) tail p) (tokenOf (now (s .entry)) tail p))) × (r ≤ 2 ^ 63) ⌝ }
 {
@@ -103,7 +103,7 @@ pub fn size(tail: Tail, p: Parts, s: &[u8]) -> usize
 }
 
 // Writes what stands between the numbers of a frame, at a place with room for it.
-pub fn put(tail: Tail, p: Parts, s: &[u8], out: &mut [u8], at: usize) -> usize
+pub(crate) fn put(tail: Tail, p: Parts, s: &[u8], out: &mut [u8], at: usize) -> usize
     requires { ⌜ Bounded (length (now s)) tail p × (at + length (bodyBytes tail (p .len) (bodyOf (now s) tail p) (tokenOf (now s) tail p)) ≤ length (now out)) ⌝ }
     ensures { λ r. ⌜ (r ≡ at + length (bodyBytes tail (p .len) (bodyOf (now (s .entry)) tail p) (tokenOf (now (s .entry)) tail p))) × (now (out .exit) ≡ sets (now (out .entry)) at (bodyBytes tail (p .len) (bodyOf (now (s .entry)) tail p) (tokenOf (now (s .entry)) tail p))) ⌝ }
 {
