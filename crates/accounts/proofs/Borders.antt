@@ -7,11 +7,11 @@ use Rattle.streams.specs.Opening.{openingOf}
 use Rattle.streams.specs.Rules.{rule1, rule2, blockedOf, sendingOf}
 use Rattle.streams.specs.Calls.{raiseOf, raiseStreamOf, raiseCountOf, openNextOf, handOutOf}
 use Rattle.streams.specs.Frames.{endOf, ruledOf, connAfter, callOf}
-use Rattle.streams.specs.Fits.{isFresh, entryFits, limitsFit, countsFit, connFits, summedOf}
+use Rattle.streams.specs.Fits.{isFresh, entryFitsAs, limitsFit, countsFit, connFits, summedOf, concludedOf}
 use Rattle.accounts.specs.Borders.{Borders}
 
 pub borders : Borders
-unfolding endOf finalOf upTo openTo openingOf rule1 rule2 blockedOf sendingOf raiseOf raiseStreamOf raiseCountOf openNextOf handOutOf ruledOf connAfter callOf isFresh entryFits limitsFit countsFit connFits summedOf
+unfolding endOf finalOf upTo openTo openingOf rule1 rule2 blockedOf sendingOf raiseOf raiseStreamOf raiseCountOf openNextOf handOutOf ruledOf connAfter callOf isFresh entryFitsAs limitsFit countsFit connFits summedOf concludedOf
 borders = record {
   views = refl;
   spaces = refl;
@@ -40,4 +40,5 @@ borders = record {
   limit-fits = refl;
   open-fits = refl;
   sum-fits = refl;
+  total-fits = refl;
 }

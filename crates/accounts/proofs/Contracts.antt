@@ -1,4 +1,4 @@
--- The histories are those of the functions: one turn of a walk and each local call are what the contracts of crate streams cite.
+-- The histories are those of the functions: one turn of a walk and each local call are what the contracts of crates streams and limits cite.
 -- Both sides go by the same answer, and a refused frame or call sets an entry to itself.
 -- Assumes nothing.
 use Prim.Native.Nat.{ℕ}

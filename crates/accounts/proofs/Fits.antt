@@ -18,7 +18,7 @@ use Rattle.streams.specs.declared.Final.the-variants.{Unknown, Known}
 use Rattle.streams.specs.Entry.{mostStreams, mostCredit, finalOf, fresh, entryAt}
 use Rattle.streams.specs.Conn.{openedOf, initOf}
 use Rattle.streams.specs.Calls.{isKnown}
-use Rattle.streams.specs.Fits.{sizeFits, isFresh, entryFits, limitsFit, countsFit, connFits, sumTo, allTo, fits}
+use Rattle.streams.specs.Fits.{sizeFits, isFresh, entryFits, entryFitsAs, limitsFit, countsFit, connFits, sumTo, allTo, fits}
 use Rattle.accounts.proofs.Tests.{or-true, size-none, unknown-size}
 use Rattle.accounts.proofs.Sums.{all-at, all-of, sum-at}
 
@@ -76,7 +76,7 @@ unfolding isFresh
 fresh-test e n h = ap (λ (x : Entry). isFresh x n) h ∙ simp (eq-eqb n n refl, size-none)
 
 entry-ok : (c : Conn) (i : ℕ) (e : Entry) → entryFits c i e ≡ true → EntryOk c i e
-unfolding entryFits
+unfolding entryFitsAs
 entry-ok c i e h =
     let a = and-eq-true-iff (leb (e .end) (e .credit)) _ .0 h in
     let b = and-eq-true-iff (sizeFits (finalOf (e .size)) (e .end)) _ .0 (a .1) in
@@ -93,7 +93,7 @@ entry-ok c i e h =
     go l (inr x) = fresh-fact e (initOf c (i / 64)) x
 
 entry-test : (c : Conn) (i : ℕ) (e : Entry) → EntryOk c i e → entryFits c i e ≡ true
-unfolding entryFits
+unfolding entryFitsAs
 entry-test c i e h = simp (le-leb _ _ (h .within), size-test (finalOf (e .size)) (e .end) (h .size-is), le-leb _ _ (h .ceiling), go (decLe (openedOf c (i / 64)) (i % 64)))
   where
     go : Dec (openedOf c (i / 64) ≤ i % 64) → ltb (i % 64) (openedOf c (i / 64)) || isFresh e (initOf c (i / 64)) ≡ true

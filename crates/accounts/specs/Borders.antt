@@ -21,7 +21,7 @@ use Rattle.streams.specs.Opening.{openedConn, openingOf}
 use Rattle.streams.specs.Frames.{Call, viewOf, ruledOf, connAfter, callOf}
 use Rattle.streams.specs.Frames.Call.{RaiseCredit, RaiseStream, RaiseCount, OpenNext, HandOut}
 use Rattle.streams.specs.Frames.Event.{Got}
-use Rattle.streams.specs.Fits.{entryFits, connFits, summedOf}
+use Rattle.streams.specs.Fits.{entryFits, connFits, summedOf, concludedOf}
 
 -- a connection with counts 4 and 4, stream credits 16, connection credit 40, so many streams of each type open, a next number of the last space, and a mark
 abbrev pub bench : ℕ → ℕ → ℕ → ℕ → ℕ → Mark → Conn
@@ -85,4 +85,6 @@ pub record Borders : Type 0 where
   -- "more is open than the count allows"
   pub open-fits : map connFits (bench 4 64 4 64 0 Open ∷ bench 5 0 0 0 0 Open ∷ bench 0 65 0 0 0 Open ∷ bench 0 0 5 0 0 Open ∷ bench 0 0 0 65 0 Open ∷ []) ≡ true ∷ false ∷ false ∷ false ∷ false ∷ []
   -- "the total .. is above the connection credit": the running sum stops there
-  pub sum-fits : map (summedOf (bench 1 0 0 0 0 Open) 0 (entry 16 16 (2 ^ 64 - 1))) (24 ∷ 25 ∷ []) ≡ To 40 ∷ Unfit ∷ []
+  pub sum-fits : map (summedOf 40 1 16 0 (entry 16 16 (2 ^ 64 - 1))) (To 24 ∷ To 25 ∷ Unfit ∷ []) ≡ To 40 ∷ Unfit ∷ Unfit ∷ []
+  -- "the total is not the sum of the ends"
+  pub total-fits : map (concludedOf (bench 1 0 0 0 0 Open)) (To 0 ∷ To 1 ∷ Unfit ∷ []) ≡ true ∷ false ∷ false ∷ []

@@ -3,3 +3,4 @@ pub mod Going
 pub mod Sound
 pub mod Order
 pub mod Unique
+pub mod Codes

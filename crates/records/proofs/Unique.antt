@@ -1,4 +1,4 @@
--- The contracts of `new`, `check`, `test`, `take` and `next_run` are firm: each is an equation of the answer, and `take`'s of the record too.
+-- The contracts of `new`, `check`, `test`, `take`, `next_run`, `check_of` and `test_of` are firm: each is an equation of the answer, and `take`'s of the record too.
 -- Assumes nothing.
 use mathlib.Core.Path.{sym, _∙_}
 use Rattle.answers.specs.Firm.{FirmAnswer}
@@ -12,6 +12,10 @@ use Rattle.records.proofs.Record.take.Kinds as take
 use Rattle.records.proofs.Record.take.Reads as taking
 use Rattle.records.proofs.Record.next_run.Kinds as next-run
 use Rattle.records.proofs.Record.next_run.Reads as searching
+use Rattle.records.proofs.check_of.Kinds as check-of
+use Rattle.records.proofs.check_of.Reads as checking-of
+use Rattle.records.proofs.test_of.Kinds as test-of
+use Rattle.records.proofs.test_of.Reads as testing-of
 
 pub new-firm : FirmAnswer 0 new.ps new.r making.Asked making.Post
 new-firm = record { asks-nothing = λ κs a. tt; one-outcome = λ κs a x y s t p q. p ∙ sym q }
@@ -27,3 +31,9 @@ take-firm = record { asks-nothing = λ κs a. tt; one-outcome = λ κs a x y s t
 
 pub next-run-firm : FirmAnswer 0 next-run.ps next-run.r searching.Asked searching.Post
 next-run-firm = record { asks-nothing = λ κs a. tt; one-outcome = λ κs a x y s t p q. p ∙ sym q }
+
+pub check-of-firm : FirmAnswer 1 check-of.ps check-of.r checking-of.Asked checking-of.Post
+check-of-firm = record { asks-nothing = λ κs a. tt; one-outcome = λ κs a x y s t p q. p ∙ sym q }
+
+pub test-of-firm : FirmAnswer 1 test-of.ps test-of.r testing-of.Asked testing-of.Post
+test-of-firm = record { asks-nothing = λ κs a. tt; one-outcome = λ κs a x y s t p q. p ∙ sym q }

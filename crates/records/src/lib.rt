@@ -103,7 +103,7 @@ fn clean(words: &[u64; 128], top: u64) -> bool
 }
 
 // 120 for a record that cannot be.
-fn check_of(words: &[u64; 128], top: u64) -> Answer
+pub fn check_of(words: &[u64; 128], top: u64) -> Answer
     ensures { λ r. ⌜ r ≡ checkOf (joined (now (words .entry)) top) ⌝ }
 {
     if 0 < top {
@@ -122,7 +122,7 @@ fn check_of(words: &[u64; 128], top: u64) -> Answer
 }
 
 // 106 for a number below the record, 107 for one in it already.
-fn test_of(words: &[u64; 128], top: u64, n: u64) -> Answer
+pub fn test_of(words: &[u64; 128], top: u64, n: u64) -> Answer
     ensures { λ r. ⌜ r ≡ testOf (joined (now (words .entry)) top) n ⌝ }
 {
     // above the largest every number is fresh, and its slot is still another's

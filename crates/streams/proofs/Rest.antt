@@ -2,7 +2,7 @@
 -- Assumes nothing.
 use Prim.Native.Nat.{ℕ, zero, suc}
 use mathlib.Core.Path.{_≡_, refl}
-use Rattle.streams.specs.Conn.{openedOf, countOf, initOf}
+use Rattle.streams.specs.Conn.{openedOf, countOf}
 use Rattle.streams.specs.declared.Conn.{Conn}
 
 pub count-rest : (c : Conn) (ty : ℕ) → (ty ≡ 0 → ⊥) → (ty ≡ 1 → ⊥) → (ty ≡ 2 → ⊥) → c .open3 ≡ countOf c ty
@@ -16,8 +16,3 @@ opened-rest c zero a b d = absurd (a refl)
 opened-rest c (suc zero) a b d = absurd (b refl)
 opened-rest c (suc (suc zero)) a b d = absurd (d refl)
 opened-rest c (suc (suc (suc n))) a b d = refl
-
-pub init-rest : (c : Conn) (ty : ℕ) → (ty ≡ 0 → ⊥) → (ty ≡ 1 → ⊥) → c .init2 ≡ initOf c ty
-init-rest c zero a b = absurd (a refl)
-init-rest c (suc zero) a b = absurd (b refl)
-init-rest c (suc (suc n)) a b = refl

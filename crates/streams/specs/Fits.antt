@@ -1,6 +1,6 @@
 -- When a connection and its table fit (no 120), document 01, "120 for the table": entry by entry, and the connection's own numbers.
 use Prim.Native.Nat.{ℕ, zero, suc, _+_, _/_, _%_}
-use mathlib.Core.Bool.{Bool, true, not, _&&_, _||_}
+use mathlib.Core.Bool.{Bool, true, false, not, _&&_, _||_}
 use mathlib.Core.List.{List}
 use lib.ListN.{length}
 use lib.Dec.{ltb, leb, eqb}
@@ -24,13 +24,18 @@ sizeFits (Known size) end = eqb size end
 unfoldable pub isFresh : Entry → ℕ → Bool
 isFresh e credit = eqb (e .credit) credit && (eqb (e .end) 0 && not (isKnown (finalOf (e .size))))
 
--- the entry at a place: its end is within its credit, a known final size is the end, it is as opening set it unless it is open, and its credit is within the ceiling
-unfoldable pub entryFits : Conn → ℕ → Entry → Bool
-entryFits c i e =
+-- an entry at an ordinal of its type, of which so many are open and whose initial credit is init: its end is within its credit, a known final size is the end, it is as opening set it unless it is open,
+-- and its credit is within the ceiling
+unfoldable pub entryFitsAs : ℕ → ℕ → ℕ → Entry → Bool
+entryFitsAs opened init n e =
     leb (e .end) (e .credit)
     && (sizeFits (finalOf (e .size)) (e .end)
-    && ((ltb (i % 64) (openedOf c (i / 64)) || isFresh e (initOf c (i / 64)))
+    && ((ltb n opened || isFresh e init)
     && leb (e .credit) mostCredit))
+
+-- the entry at a place of the table, 64 to a type
+abbrev pub entryFits : Conn → ℕ → Entry → Bool
+entryFits c i e = entryFitsAs (openedOf c (i / 64)) (initOf c (i / 64)) (i % 64) e
 
 -- no credit is above its ceiling
 unfoldable pub limitsFit : Conn → Bool
@@ -69,8 +74,14 @@ fits c t =
     && connFits c))
 
 -- one step of the check over the table: the entry fits, and the running sum stays within the connection credit, so that it cannot wrap
-unfoldable pub summedOf : Conn → ℕ → Entry → ℕ → Summed
-summedOf c i e sum =
-    not (entryFits c i e) ⇒ Unfit
-    ∣ ltb (c .credit) (sum + e .end) ⇒ Unfit
+unfoldable pub summedOf : ℕ → ℕ → ℕ → ℕ → Entry → Summed → Summed
+summedOf credit opened init n e (To sum) =
+    not (entryFitsAs opened init n e) ⇒ Unfit
+    ∣ ltb credit (sum + e .end) ⇒ Unfit
     ∣ To (sum + e .end)
+summedOf credit opened init n e Unfit = Unfit
+
+-- the end of that check: the total is the sum, and the connection fits
+unfoldable pub concludedOf : Conn → Summed → Bool
+concludedOf c (To sum) = eqb (c .total) sum && connFits c
+concludedOf c Unfit = false

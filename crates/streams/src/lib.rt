@@ -1,6 +1,4 @@
-// Streams and credit (document 01, "Streams and credit"): what a frame or a local call does to a connection and to ONE entry of its table, by value.
-pub mod calls;
-pub mod check;
+// Streams and credit (document 01, "Streams and credit"): what a frame does to a connection and to ONE entry of its table, by value.
 pub mod frame;
 mod rules;
 
@@ -105,7 +103,7 @@ impl Entry {
     // Above every size that a stream can have.
     pub const UNKNOWN: u64 = 18446744073709551615;
 
-    fn known(self) -> Final
+    pub fn known(self) -> Final
         ensures { λ r. ⌜ r ≡ finalOf (self .size) ⌝ }
     {
         if self.size == 18446744073709551615 {
@@ -184,7 +182,7 @@ impl Conn {
     }
 
     // How many streams of a type are open.
-    fn opened_of(self, ty: u64) -> u64
+    pub fn opened_of(self, ty: u64) -> u64
         ensures { λ r. ⌜ r ≡ openedOf self ty ⌝ }
     {
         match ty {
@@ -208,7 +206,7 @@ impl Conn {
     }
 
     // The next packet number of a space.
-    fn next_of(self, space: Space) -> u64
+    pub fn next_of(self, space: Space) -> u64
         ensures { λ r. ⌜ r ≡ nextOf self space ⌝ }
     {
         match space {
@@ -242,7 +240,7 @@ impl Conn {
     }
 
     // With the stream and all lower ordinals of its type open, and the total as given.
-    fn open_to(self, id: u64, total: u64) -> Conn
+    pub fn open_to(self, id: u64, total: u64) -> Conn
         ensures { λ r. ⌜ r ≡ openTo self id total ⌝ }
     {
         let mut c = self;

@@ -1,0 +1,85 @@
+-- PADDING bytes are passed at once: each is a frame that changes nothing, so that the walk behind them is the walk from where they begin.
+-- Assumes nothing.
+use mathlib.Core.Path.{_≡_, refl, sym, _∙_}
+use mathlib.Core.Bool.{Bool, true, false, _&&_, and-eq-true-iff}
+use mathlib.Core.List.{List}
+use Prim.Native.Nat.{ℕ, zero, suc, _+_, _≤_, _<_}
+use native.Mathlib.Omega.{arith}
+use native.Mathlib.Numerals.{add-one}
+use borrow.Author.Tests.{ltb-true, eqb-true, lt-leb}
+use lib.Dec.{ltb, eqb}
+use lib.ListN.{length, getD, set}
+use lib.Seq.{set-getD}
+use Rattle.answers.specs.Choice.{_⇒_∣_}
+use Rattle.answers.specs.declared.Answer.the-variants.{Accepted}
+use Rattle.frames.specs.declared.Kind.{Kind}
+use Rattle.frames.proofs.Order.{padding}
+use Rattle.streams.specs.declared.Conn.{Conn}
+use Rattle.streams.specs.declared.Entry.{Entry}
+use Rattle.streams.specs.declared.View.the-variants.{Plain}
+use Rattle.streams.specs.Entry.{placeOf, fresh, entryAt}
+use Rattle.streams.specs.Conn.{isOpen}
+use Rattle.streams.specs.Frames.{ruledOf, connAfter, entryAfter, settledOf, judgedOf}
+use Rattle.taking.specs.declared.Stopped.{Stopped}
+use Rattle.taking.specs.declared.Turned.{Turned}
+use Rattle.taking.specs.Step.{askedOf, askedAt, turnOf}
+use Rattle.taking.specs.Past.{pastOf, pastPadding}
+use Rattle.receive.specs.Walk.{turnAt, stopped, walkFrom}
+
+module _ (s : List ℕ) (kind : Kind) (c : Conn) (t : List Entry) where
+  -- what a PADDING byte asks, and what it leaves
+  asks : (at : ℕ) → at < length s → getD s at 0 ≡ 0 → askedAt s at kind ≡ record { place = placeOf 0; next = at + 1; ty = 0; answer = Accepted; view = Plain }
+  unfolding askedAt askedOf
+  asks at l z = rw (padding s at kind l z) refl
+
+  leaves : (at : ℕ) → at < length s → getD s at 0 ≡ 0
+      → turnAt c t s at kind ≡ record { stepped = record { conn = c; answer = Accepted; more = isOpen (c .mark); next = at + 1 }; entry = entryAt t (placeOf 0) }
+  unfolding turnAt turnOf judgedOf settledOf ruledOf connAfter entryAfter
+  leaves at l z = rw (asks at l z) refl
+
+  -- what a walk makes of a frame that leaves x, having looked at a place
+  abbrev goes : ℕ → ℕ → Turned → ℕ → Stopped × List Entry
+  goes k at x place =
+      x .stepped .more ⇒ walkFrom k (x .stepped .conn) (set t place (x .entry)) s (x .stepped .next) kind
+      ∣ (stopped (x .stepped .conn) at (x .stepped .answer), set t place (x .entry))
+
+  stepped-on : (k at : ℕ) → at < length s → walkFrom (suc k) c t s at kind ≡ goes k at (turnAt c t s at kind) (askedAt s at kind .place)
+  unfolding walkFrom
+  stepped-on k at l = rw (lt-leb (length s) at l) refl
+
+  one : (k at : ℕ) → at < length s → getD s at 0 ≡ 0 → isOpen (c .mark) ≡ true → walkFrom (suc k) c t s at kind ≡ walkFrom k c t s (suc at) kind
+  one k at l z h = stepped-on k at l ∙ (λ i. goes k at (leaves at l z i) (asks at l z i .place)) ∙ rw (h, set-getD t (placeOf 0) (fresh 0), add-one) refl
+
+  -- a walk that is the same from a place further on, with enough steps left
+  pub record Further (k at place : ℕ) : Type 0 where
+    pub steps : ℕ
+    pub no-more : steps ≤ k
+    pub ahead : at ≤ place
+    pub left : length s ≤ steps + place
+    pub same : walkFrom steps c t s place kind ≡ walkFrom k c t s at kind
+
+  abbrev Still : ℕ → Type 0
+  Still at = at < length s → isOpen (c .mark) ≡ true
+
+  -- one byte, where the others are passed
+  abbrev Passes : ℕ → Type 0
+  Passes m = (k at : ℕ) → Still at → length s ≤ k + at → Further k at (pastOf s m at)
+
+  one-more : (m : ℕ) → Passes m → (k at : ℕ) → Still at → length s ≤ k + at → at < length s → getD s at 0 ≡ 0 → Further k at (pastOf s m (suc at))
+  one-more m others zero at h l u z = absurd (omega (arith, u, l))
+  one-more m others (suc n) at h l u z =
+      let r = others n (suc at) (λ v. h u) (omega (arith, l)) in
+      record { steps = r .steps; no-more = omega (arith, r .no-more); ahead = omega (arith, r .ahead); left = r .left; same = r .same ∙ sym (one n at u z (h u)) }
+
+  passes : (m : ℕ) → Passes m
+  unfolding pastOf
+  passes zero k at h l = record { steps = k; no-more = omega arith; ahead = omega arith; left = l; same = refl }
+  passes (suc m) k at h l = go (one-more m (passes m) k at h l) (ltb at (length s) && eqb (getD s at 0) 0) refl
+    where
+      go : (at < length s → getD s at 0 ≡ 0 → Further k at (pastOf s m (suc at))) → (b : Bool) → (ltb at (length s) && eqb (getD s at 0) 0) ≡ b → Further k at (b ⇒ pastOf s m (suc at) ∣ at)
+      go f true e = let p = and-eq-true-iff (ltb at (length s)) (eqb (getD s at 0) 0) .0 e in f (ltb-true at (length s) (p .0)) (eqb-true (getD s at 0) 0 (p .1))
+      go f false e = record { steps = k; no-more = omega arith; ahead = omega arith; left = l; same = refl }
+
+  pub past : (k at : ℕ) → Still at → length s ≤ k + at → Further k at (pastPadding s at)
+  unfolding pastPadding
+  past k at h l = passes _ k at h l

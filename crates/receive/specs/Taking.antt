@@ -1,0 +1,47 @@
+-- The calls for one frame and for a packet, with the lent table.
+use Prim.Native.Nat.{ℕ}
+use mathlib.Core.List.{List}
+use Rattle.answers.specs.Choice.{_⇒_∣_}
+use Rattle.frames.specs.declared.Kind.{Kind}
+use Rattle.streams.specs.declared.Conn.{Conn}
+use Rattle.streams.specs.declared.Entry.{Entry}
+use Rattle.streams.specs.Fits.{fits}
+use Rattle.taking.specs.declared.Begun.{Begun}
+use Rattle.taking.specs.declared.Gate.{Gate}
+use Rattle.taking.specs.declared.Handed.the-variants.{Nothing}
+use Rattle.taking.specs.declared.Records.{Records}
+use Rattle.taking.specs.declared.Took.{Took}
+use Rattle.taking.specs.declared.TookFrame.{TookFrame}
+use Rattle.taking.specs.Begin.{beginOf}
+use Rattle.taking.specs.Finish.{finishOf}
+use Rattle.taking.specs.Local.{gateOf}
+use Rattle.taking.specs.Step.{handedAt}
+use Rattle.receive.specs.Walk.{steppedAt, stepTable, stoppedOf, walkTable}
+
+-- "A call for one frame (120, 101, then as above) also hands the frame as read to the caller"
+abbrev pub gateAt : Conn → List Entry → Gate
+gateAt c t = gateOf (fits c t) (c .mark)
+
+unfoldable pub tookFrameOf : Conn → List Entry → List ℕ → ℕ → Kind → TookFrame
+tookFrameOf c t s at kind =
+    gateAt c t .passes ⇒ record { answer = steppedAt c t s at kind .answer; handed = handedAt s at kind; conn = steppedAt c t s at kind .conn }
+    ∣ record { answer = gateAt c t .answer; handed = Nothing; conn = c }
+
+unfoldable pub frameTable : Conn → List Entry → List ℕ → ℕ → Kind → List Entry
+frameTable c t s at kind =
+    gateAt c t .passes ⇒ stepTable c t s at kind
+    ∣ t
+
+-- a packet: the checks up to its frames, the walk over these, and the record of its number
+abbrev pub begunOf : Conn → Records → List Entry → ℕ → List ℕ → Begun
+begunOf c rs t first s = beginOf c rs (fits c t) first s
+
+unfoldable pub tookOf : Conn → Records → List Entry → ℕ → List ℕ → Took
+tookOf c rs t first s =
+    let begun = begunOf c rs t first s in
+    finishOf begun (stoppedOf (begun .conn) t s (begun .at) (begun .kind)) rs
+
+unfoldable pub tookTable : Conn → Records → List Entry → ℕ → List ℕ → List Entry
+tookTable c rs t first s =
+    let begun = begunOf c rs t first s in
+    walkTable (begun .conn) t s (begun .at) (begun .kind)

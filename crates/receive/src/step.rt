@@ -1,0 +1,60 @@
+// One frame on the lent table, and the walk over all frames of a payload.
+ghost use mathlib.Core.Path.{_≡_};
+ghost use lib.ListN.{length};
+ghost use Rattle.receive.specs.Walk.{steppedAt, stepTable, Ready, stoppedOf, walkTable};
+use answers::Answer;
+use frames::Kind;
+use streams::Conn;
+use streams::Entry;
+use taking::Stepped;
+use taking::Stopped;
+
+// The place where a walk stops, and the answer there.
+pub struct Stop {
+    pub place: usize,
+    pub answer: Answer,
+}
+
+// The frame at a place, judged with the entry that it looks at.
+pub(crate) fn step(c: Conn, t: &mut [Entry], s: &[u8], at: usize, kind: Kind) -> Stepped
+    requires { ⌜ length (now t) ≡ 192 ⌝ }
+    ensures { λ r. ⌜ (r ≡ steppedAt c (now (t .entry)) (now (s .entry)) at kind) × (now (t .exit) ≡ stepTable c (now (t .entry)) (now (s .entry)) at kind) ⌝ }
+{
+    let a = taking::frame::ask(s, at, kind);
+    let i = a.place;
+    let j = taking::frame::turn(c, t[i], a);
+    t[i] = j.entry;
+    j.stepped
+}
+
+// The walk over the frames from a place on: it stops at the first that is refused, and at one that closes the connection.
+pub(crate) fn walk(c: Conn, t: &mut [Entry], s: &[u8], from: usize, kind: Kind) -> Stopped
+    requires { ⌜ Ready c (now t) (now s) from ⌝ }
+    ensures { λ r. ⌜ (r ≡ stoppedOf c (now (t .entry)) (now (s .entry)) from kind) × (now (t .exit) ≡ walkTable c (now (t .entry)) (now (s .entry)) from kind) ⌝ }
+{
+    let mut conn = c;
+    let mut at = from;
+    let stop = 'walk: loop {
+        at = taking::frame::past_padding(s, at);
+        if s.len() <= at {
+            break 'walk Stop {
+                place: at,
+                answer: Answer::Accepted,
+            };
+        }
+        let r = step(conn, t, s, at, kind);
+        conn = r.conn;
+        if !r.more {
+            break 'walk Stop {
+                place: at,
+                answer: r.answer,
+            };
+        }
+        at = r.next;
+    };
+    Stopped {
+        conn,
+        place: stop.place,
+        answer: stop.answer,
+    }
+}

@@ -1,0 +1,4 @@
+pub mod Shared
+pub mod Order
+pub mod Passed
+pub mod Unique

@@ -1,0 +1,53 @@
+-- `taking::packet::fit` meets its contract: a record can be exactly where its check accepts.
+-- Assumes nothing.
+use borrow.Author.Needs.{needs}
+use mathlib.Core.Path.{sym, _∙_}
+use Rattle.answers.proofs.Numbers.{other}
+use Rattle.records.proofs.Taking.{can-be, cannot-be}
+use Rattle.taking.specs.Spaces.{recordsFit}
+use Rattle.taking.proofs.packet.fit.Statement.{statement}
+use Rattle.taking.proofs.packet.fit.Tie as tie
+
+returns : tie.Need-returns
+unfolding recordsFit
+returns c =
+    let a = c .before .before .before .before .args .t1 in
+    rw (cannot-be (a .initial) (λ e. other (rw (c .before .check-of .ensures ∙ e) at (c .match .keys2))))
+
+returns-2 : tie.Need-returns-2
+unfolding recordsFit
+returns-2 c =
+    let first = c .before .before .before .before in
+    let a = first .before .before .before .before .before .args .t1 in
+    rw (can-be (a .initial) (sym (first .before .before .check-of .ensures) ∙ first .enum-told .given .1), cannot-be (a .handshake) (λ e. other (rw (c .before .check-of2 .ensures ∙ e) at (c .match2 .keys2))))
+
+returns-3 : tie.Need-returns-3
+unfolding recordsFit
+returns-3 c =
+    let second = c .before .before .before .before in
+    let first = second .before .before .before .before .before in
+    let a = first .before .before .before .before .before .args .t1 in
+    rw (can-be (a .initial) (sym (first .before .before .check-of .ensures) ∙ first .enum-told .given .1), can-be (a .handshake) (sym (second .before .before .check-of2 .ensures) ∙ second .enum-told2 .given .1), cannot-be (a .application) (λ e. other (rw (c .before .check-of3 .ensures ∙ e) at (c .match3 .keys2))))
+
+returns-4 : tie.Need-returns-4
+unfolding recordsFit
+returns-4 c =
+    let second = c .before .before .before .before .before in
+    let first = second .before .before .before .before .before in
+    let a = first .before .before .before .before .before .args .t1 in
+    rw (can-be (a .initial) (sym (first .before .before .check-of .ensures) ∙ first .enum-told .given .1), can-be (a .handshake) (sym (second .before .before .check-of2 .ensures) ∙ second .enum-told2 .given .1), can-be (a .application) (sym (c .before .before .check-of3 .ensures) ∙ c .enum-told3 .given .1))
+
+pub fit-spec : {M : Type 1} → statement M
+fit-spec =
+    tie.close
+    (tie.spec
+    (λ c κs. search needs)
+    (λ c. search needs)
+    returns
+    (λ c κs. search needs)
+    (λ c. search needs)
+    returns-2
+    (λ c κs. search needs)
+    (λ c. search needs)
+    returns-3
+    returns-4)

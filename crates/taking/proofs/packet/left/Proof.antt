@@ -1,0 +1,16 @@
+-- `taking::packet::left` meets its contract: it is the definition.
+-- Assumes nothing.
+use mathlib.Core.Path.{refl}
+use Rattle.taking.specs.Begin.{leftOf}
+use Rattle.taking.proofs.packet.left.Statement.{statement}
+use Rattle.taking.proofs.packet.left.Tie as tie
+
+returns : tie.Need-returns
+unfolding leftOf
+returns c = refl
+
+pub left-spec : {M : Type 1} → statement M
+left-spec =
+    tie.close
+    (tie.spec
+    returns)
