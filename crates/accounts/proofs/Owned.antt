@@ -33,12 +33,12 @@ use Rattle.accounts.proofs.Steps.{taken, has, passes, step-fits}
 
 -- ---- opening
 
-length-list : {A : Type 0} (n : ℕ) (f : ℕ → A) → length (listTo n f) ≡ n
+pub length-list : {A : Type 0} (n : ℕ) (f : ℕ → A) → length (listTo n f) ≡ n
 unfolding listTo
 length-list zero f = refl
 length-list (suc n) f = ap suc (length-list n (λ i. f (suc i)))
 
-list-at : {A : Type 0} (n i : ℕ) (f : ℕ → A) (d : A) → i < n → getD (listTo n f) i d ≡ f i
+pub list-at : {A : Type 0} (n i : ℕ) (f : ℕ → A) (d : A) → i < n → getD (listTo n f) i d ≡ f i
 unfolding listTo
 list-at zero i f d l = absurd (omega arith)
 list-at (suc n) zero f d l = refl

@@ -1,7 +1,7 @@
 // The local calls on a connection and, for a stream's credit, its entry: 101, 104, 105, 103, 102.
 ghost use mathlib.Core.Path.{_≡_};
 ghost use Rattle.streams.specs.Entry.{mostStreams};
-ghost use Rattle.streams.specs.Conn.{isOpen, limited};
+ghost use Rattle.streams.specs.Conn.{limited};
 ghost use Rattle.streams.specs.Calls.{isKnown, raiseOf, raiseStreamOf};
 ghost use Rattle.streams.specs.Frames.{Call, leftOf, raisedOf, calledOf, openedNextOf, handedOutOf};
 use answers::Answer;
@@ -10,19 +10,8 @@ use streams::Conn;
 use streams::Entry;
 use streams::Final;
 use streams::Judged;
-use streams::Mark;
 use streams::Numbered;
 use streams::Space;
-
-fn is_open(mark: Mark) -> bool
-    ensures { λ r. ⌜ r ≡ isOpen mark ⌝ }
-{
-    match mark {
-        Mark::Open => true,
-        Mark::Code { answer: _, ty: _ } => false,
-        Mark::ByPeer => false,
-    }
-}
 
 // 103 above the ceiling, 102 not above the present value.
 fn raise(present: u64, new: u64, ceiling: u64) -> Answer
@@ -67,7 +56,7 @@ pub fn raise_stream(c: Conn, e: Entry, id: u64, new: u64) -> Judged
     ensures { λ r. ⌜ r ≡ raisedOf c e id new ⌝ }
 {
     let mark = c.mark;
-    if !is_open(mark) {
+    if !mark.is_open() {
         return Judged {
             answer: Answer::Closed,
             conn: c,
@@ -98,7 +87,7 @@ pub fn raise_credit(c: Conn, new: u64) -> Called
     ensures { λ r. ⌜ r ≡ calledOf c (Call.RaiseCredit new) ⌝ }
 {
     let mark = c.mark;
-    if !is_open(mark) {
+    if !mark.is_open() {
         return Called {
             answer: Answer::Closed,
             conn: c,
@@ -121,7 +110,7 @@ pub fn raise_count(c: Conn, ty: u64, new: u64) -> Called
     ensures { λ r. ⌜ r ≡ calledOf c (Call.RaiseCount ty new) ⌝ }
 {
     let mark = c.mark;
-    if !is_open(mark) {
+    if !mark.is_open() {
         return Called {
             answer: Answer::Closed,
             conn: c,
@@ -172,7 +161,7 @@ pub fn open_next(c: Conn, ty: u64) -> Numbered
     ensures { λ r. ⌜ r ≡ openedNextOf c ty ⌝ }
 {
     let mark = c.mark;
-    if !is_open(mark) {
+    if !mark.is_open() {
         return Numbered {
             answer: Answer::Closed,
             number: 0,

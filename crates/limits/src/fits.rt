@@ -31,23 +31,24 @@ fn is_fresh(e: Entry, credit: u64) -> bool
     }
 }
 
-// An entry at an ordinal of its type, of which so many are open and whose initial credit is `init`.
+// An entry at an ordinal of its type, of which so many are open and whose initial credit is `init`. Most entries of a
+// table are unopened, and one that is as opening set it needs no other test of its own.
 fn entry_fits(opened: u64, init: u64, ordinal: u64, e: Entry) -> bool
     ensures { λ r. ⌜ r ≡ entryFitsAs opened init ordinal e ⌝ }
 {
+    if opened <= ordinal {
+        if is_fresh(e, init) {
+            return init <= Conn::MOST_CREDIT;
+        }
+        return false;
+    }
     if e.credit < e.end {
         return false;
     }
     if !size_fits(e.known(), e.end) {
         return false;
     }
-    if Conn::MOST_CREDIT < e.credit {
-        return false;
-    }
-    if ordinal < opened {
-        return true;
-    }
-    is_fresh(e, init)
+    e.credit <= Conn::MOST_CREDIT
 }
 
 // One entry more: it fits, and the sum of the ends stays within the connection credit.

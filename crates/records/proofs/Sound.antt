@@ -51,6 +51,20 @@ module _ (ws : List ℕ) (at : ℕ) where
       let g : i ≡ m % 64 = omega arith in
       ap (bit (getD ws (at / 64) 0)) g ∙ ap (λ (x : ℕ). bit (getD ws x 0) (m % 64)) e ∙ k m (omega arith) (omega arith)
 
+-- the same of a whole word
+module _ (ws : List ℕ) (k : ℕ) where
+  pub bits-of : Blank (getD ws k 0) 0 → (m : ℕ) → 64 * k ≤ m → m < 8192 → m < 64 * k + 64 → bitAt ws m ≡ 0
+  bits-of b m p l q =
+      let e : 64 * k / 64 ≡ k = omega arith in
+      let r : 64 * k % 64 ≡ 0 = omega arith in
+      clean-word ws (64 * k) (rw (e, r) b) m p l (omega (arith, r))
+
+  pub word-of : k < 128 → ((m : ℕ) → 64 * k ≤ m → m < 8192 → bitAt ws m ≡ 0) → Blank (getD ws k 0) 0
+  word-of l f =
+      let e : 64 * k / 64 ≡ k = omega arith in
+      let r : 64 * k % 64 ≡ 0 = omega arith in
+      rw (e, r) at (word-clean ws (64 * k) (omega arith) f)
+
 -- tests of two parts
 either : (a b : Bool) → (a || b) ≡ true → a ≡ false → b ≡ true
 either true b e f = absurd (true≢false f)

@@ -1,6 +1,6 @@
 // The record of the last 8,192 packet numbers of a space (document 01, "Packet numbers"): a ring of 128 words, a bit for each number.
 ghost use mathlib.Core.Path.{_≡_};
-ghost use Prim.Native.Nat.{_+_, _≤_, _<_, _^_};
+ghost use Prim.Native.Nat.{_+_, _*_, _≤_, _<_, _^_};
 ghost use Rattle.records.specs.Marks.{bitAt, recorded, noneOf, Clean, checkOf, testOf};
 ghost use Rattle.records.specs.Runs.{nextRun};
 ghost use Rattle.records.specs.Ring.{takenOf};
@@ -86,20 +86,32 @@ fn down(words: &[u64; 128], at: u64, bottom: u64, ones: bool) -> u64
     low
 }
 
-// Whether no number below 0 is marked: while the largest is below 8,191 the slots above it are theirs.
+// Whether the words from `from` on have no bit.
+fn zeros(words: &[u64; 128], from: usize) -> bool
+    ensures { λ r. ⌜ Decides (Clean (joined (now (words .entry)) (64 * from))) r ⌝ }
+{
+    let mut k = from;
+    while k < 128 {
+        if !blank(words[k], 0) {
+            return false;
+        }
+        k += 1;
+    }
+    true
+}
+
+// Whether no number below 0 is marked: while the largest is below 8,191 the slots above it are theirs, the rest of a word and whole words.
 fn clean(words: &[u64; 128], top: u64) -> bool
     ensures { λ r. ⌜ Decides (Clean (joined (now (words .entry)) top)) r ⌝ }
 {
-    let mut at = top;
-    while at < 8192 {
-        let s = at % 64;
-        let k = (at / 64) as usize;
-        if !blank(words[k], s) {
-            return false;
-        }
-        at = at + (64 - s);
+    if 8192 <= top {
+        return true;
     }
-    true
+    let k = (top / 64) as usize;
+    if !blank(words[k], top % 64) {
+        return false;
+    }
+    zeros(words, k + 1)
 }
 
 // 120 for a record that cannot be.

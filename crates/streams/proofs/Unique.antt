@@ -4,6 +4,8 @@ use mathlib.Core.Path.{sym, _∙_}
 use Rattle.answers.specs.Firm.{FirmAnswer}
 use Rattle.streams.proofs.Entry.known.Kinds as known
 use Rattle.streams.proofs.Entry.known.Reads as known-reads
+use Rattle.streams.proofs.Mark.is_open.Kinds as is-open
+use Rattle.streams.proofs.Mark.is_open.Reads as is-open-reads
 use Rattle.streams.proofs.Conn.open.Kinds as opening
 use Rattle.streams.proofs.Conn.open.Reads as opening-reads
 use Rattle.streams.proofs.Conn.opened_of.Kinds as opened-of
@@ -25,6 +27,9 @@ use Rattle.streams.proofs.frame.judge.Reads as judge-reads
 
 pub known-firm : FirmAnswer 0 known.ps known.r known-reads.Asked known-reads.Post
 known-firm = record { asks-nothing = λ κs a. tt; one-outcome = λ κs a x y s t p q. p ∙ sym q }
+
+pub is-open-firm : FirmAnswer 0 is-open.ps is-open.r is-open-reads.Asked is-open-reads.Post
+is-open-firm = record { asks-nothing = λ κs a. tt; one-outcome = λ κs a x y s t p q. p ∙ sym q }
 
 pub open-firm : FirmAnswer 0 opening.ps opening.r opening-reads.Asked opening-reads.Post
 open-firm = record { asks-nothing = λ κs a. tt; one-outcome = λ κs a x y s t p q. p ∙ sym q }

@@ -4,7 +4,7 @@ mod rules;
 
 ghost use mathlib.Core.Path.{_≡_};
 ghost use Rattle.streams.specs.Entry.{finalOf};
-ghost use Rattle.streams.specs.Conn.{openedOf, countOf, markedAs, openTo};
+ghost use Rattle.streams.specs.Conn.{isOpen, openedOf, countOf, markedAs, openTo};
 ghost use Rattle.streams.specs.Calls.{nextOf};
 ghost use Rattle.streams.specs.Opening.{openedConn, openingOf};
 use answers::Answer;
@@ -110,6 +110,18 @@ impl Entry {
             return Final::Unknown;
         }
         Final::Known { size: self.size }
+    }
+}
+
+impl Mark {
+    pub fn is_open(self) -> bool
+        ensures { λ r. ⌜ r ≡ isOpen self ⌝ }
+    {
+        match self {
+            Mark::Open => true,
+            Mark::Code { answer: _, ty: _ } => false,
+            Mark::ByPeer => false,
+        }
     }
 }
 

@@ -2,7 +2,6 @@
 use Prim.Native.Nat.{ℕ}
 use mathlib.Core.Bool.{Bool, _&&_}
 use Rattle.records.specs.declared.Record.{Record}
-use Rattle.records.specs.declared.Taken.{Taken}
 use Rattle.records.specs.Marks.{soundOf}
 use Rattle.records.specs.Ring.{takenOf}
 use Rattle.streams.specs.declared.Space.{Space}

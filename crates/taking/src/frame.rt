@@ -1,6 +1,5 @@
 // One frame of a payload: what it asks, and what it leaves of a connection and of the entry that it looks at.
 ghost use mathlib.Core.Path.{_≡_};
-ghost use Rattle.streams.specs.Conn.{isOpen};
 ghost use Rattle.taking.specs.Step.{askedOf, askedAt, turnedAs, turnOf, handedAt};
 ghost use Rattle.taking.specs.Past.{pastPadding};
 use crate::Asked;
@@ -16,16 +15,6 @@ use streams::Judged;
 use streams::Mark;
 use streams::View;
 use wire::Number;
-
-pub(crate) fn is_open(mark: Mark) -> bool
-    ensures { λ r. ⌜ r ≡ isOpen mark ⌝ }
-{
-    match mark {
-        Mark::Open => true,
-        Mark::Code { answer: _, ty: _ } => false,
-        Mark::ByPeer => false,
-    }
-}
 
 // What a frame asks, from what reading it gave.
 fn asked(kind: Kind, at: usize, r: Reading) -> Asked
@@ -70,7 +59,7 @@ fn turned(j: Judged, next: usize) -> Turned
     let stepped = Stepped {
         conn,
         answer,
-        more: is_open(mark),
+        more: mark.is_open(),
         next,
     };
     Turned { stepped, entry }

@@ -23,7 +23,7 @@ pub fn gate(whole: bool, mark: Mark) -> Gate
             answer: Answer::DoesNotFit,
         };
     }
-    if !crate::frame::is_open(mark) {
+    if !mark.is_open() {
         return Gate {
             passes: false,
             answer: Answer::Closed,

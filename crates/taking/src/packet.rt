@@ -10,7 +10,6 @@ use crate::Records;
 use crate::Stopped;
 use crate::Told;
 use crate::Took;
-use crate::frame;
 use crate::head;
 use answers::Answer;
 use frames::Kind;
@@ -126,7 +125,7 @@ pub fn begin(c: Conn, records: Records, whole: bool, first: u8, s: &[u8]) -> Beg
         return left(c, Answer::DoesNotFit, s.len());
     }
     let mark = c.mark;
-    if !frame::is_open(mark) {
+    if !mark.is_open() {
         return left(c, Answer::Closed, s.len());
     }
     let Told::Carries { kind } = head::told(first) else {

@@ -1,54 +1,42 @@
--- `records::clean` meets its contract: no bit from the top up to `at` is set, and a word that is not blank from there on has one.
+-- `records::clean` meets its contract: the numbers from the top on have the rest of its word and the words behind it.
 -- Assumes nothing.
+use borrow.Author.Needs.{needs}
 use mathlib.Core.Bool.{true≢false}
 use borrow.Author.Tests.{not-true, not-false}
 use native.Mathlib.Omega.{arith}
-use mathlib.Core.Path.{_≡_, sym}
-use Prim.Native.Nat.{ℕ, _-_, _≤_, _<_}
+use mathlib.Core.Path.{sym}
+use Prim.Native.Nat.{_+_, _*_, _/_}
 use Rattle.answers.proofs.Choice.{below-or-not}
-use Rattle.records.specs.Marks.{bitAt}
 use Rattle.records.proofs.Sound.{clean-word, word-clean}
 use Rattle.records.proofs.clean.Statement.{statement}
 use Rattle.records.proofs.clean.Tie as tie
 
-abbrev Inv-loop : tie.InvT-loop
-Inv-loop words top at₀ at = (top ≤ at) × ((m : ℕ) → top ≤ m → m < at → m < 8192 → bitAt words m ≡ 0)
+returns : tie.Need-returns
+returns c = record { holds = λ e m a b. absurd (omega arith); fails = λ e. absurd (true≢false e) }
 
-abbrev μ-loop : tie.MeasureT-loop
-μ-loop words top at₀ at = 8192 - at
+returns-2 : tie.Need-returns-2
+returns-2 c = record {
+  holds = λ e. absurd (true≢false (sym e));
+  fails = λ e f. c .before .blank .ensures .fails (not-true _ (c .if2 .taken)) (word-clean _ _ (omega arith) f);
+}
 
-loop-holds : tie.Need-loop-holds Inv-loop μ-loop
-loop-holds c = (omega arith, λ m a b d. absurd (omega arith))
-
-returns : tie.Need-returns Inv-loop μ-loop
-returns c =
-    let at = c .before .before .before .before .loop .at in
+returns-3 : tie.Need-returns-3
+returns-3 c =
+    let top = c .before .before .before .before .before .args .top in
     record {
-      holds = λ e. absurd (true≢false (sym e));
-      fails = λ e k. c .before .blank .ensures .fails (not-true _ (c .if1 .taken)) (word-clean _ at (omega arith) (λ m a b. k m (omega arith) b));
+      holds = λ e m p l. below-or-not m (top / 64 * 64 + 64) (λ q. clean-word _ top (c .before .before .blank .ensures .holds (not-false _ (c .before .if2 .left))) m p l (omega arith)) (λ q. c .zeros .ensures .holds e m (omega arith) l);
+      fails = λ e f. c .zeros .ensures .fails e (λ m p l. f m (omega arith) l);
     }
-
-loop-again : tie.Need-loop-again Inv-loop μ-loop
-loop-again c =
-    let l = c .before .before .before .before .loop in
-    (omega arith, λ m a b d. below-or-not m (l .at) (λ p. l .inv .1 m a p d) (λ p. clean-word _ (l .at) (c .before .blank .ensures .holds (not-false _ (c .if1 .left))) m p d b))
-
-returns-2 : tie.Need-returns-2 Inv-loop μ-loop
-returns-2 c = record { holds = λ e m a b. c .before .loop .inv .1 m a (omega arith) b; fails = λ e. absurd (true≢false e) }
 
 pub clean-spec : {M : Type 1} → statement M
 clean-spec =
     tie.close
     (tie.spec
-    Inv-loop
-    μ-loop
-    loop-holds
-    (λ c. omega arith)
-    (λ c. omega arith)
-    (λ c κs. omega arith)
     returns
-    (λ c. omega arith)
-    (λ c. omega arith)
-    (λ c. omega arith)
-    loop-again
-    returns-2)
+    (λ c. search needs)
+    (λ c. search needs)
+    (λ c κs. search needs)
+    returns-2
+    (λ c. search needs)
+    (λ c κs. search needs)
+    returns-3)

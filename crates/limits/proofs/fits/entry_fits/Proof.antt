@@ -1,42 +1,40 @@
--- `limits::fits::entry_fits` meets its contract: each test refuses what a test of the definition refuses, and the last one is that of the definition.
+-- `limits::fits::entry_fits` meets its contract: an unopened entry fits where it is as opening set it, and of an opened one the tests are those of the definition.
 -- Assumes nothing.
 use borrow.Author.Needs.{needs}
 use mathlib.Core.Path.{sym, _∙_}
-use mathlib.Core.Bool.{and-true, and-false}
-use borrow.Author.Tests.{le-leb, lt-leb, lt-ltb, le-ltb, not-true, not-false}
+use borrow.Author.Tests.{le-leb, lt-leb, lt-ltb, not-true, not-false}
 use Rattle.streams.specs.Fits.{entryFitsAs}
 use Rattle.limits.proofs.fits.entry_fits.Statement.{statement}
 use Rattle.limits.proofs.fits.entry_fits.Tie as tie
+use Rattle.limits.proofs.Fresh.{fresh-fits, changed-unfit}
 
 returns : tie.Need-returns
-unfolding entryFitsAs
-returns c = rw (lt-leb _ _ (c .if1 .taken))
+returns c = let a = c .before .before .before .args in sym (fresh-fits (a .opened) (a .init) (a .ordinal) (a .e) (c .before .before .if1 .taken) (sym (c .before .is-fresh .ensures) ∙ c .if2 .taken))
 
 returns-2 : tie.Need-returns-2
-unfolding entryFitsAs
-returns-2 c = rw (le-leb _ _ (c .before .before .before .if1 .left), sym (c .before .before .known .ensures), sym (c .before .size-fits .ensures) ∙ not-true _ (c .if2 .taken))
+returns-2 c = let a = c .before .before .before .args in sym (changed-unfit (a .opened) (a .init) (a .ordinal) (a .e) (c .before .before .if1 .taken) (sym (c .before .is-fresh .ensures) ∙ c .if2 .left))
 
 returns-3 : tie.Need-returns-3
 unfolding entryFitsAs
-returns-3 c = rw (le-leb _ _ (c .before .before .before .before .before .if1 .left), sym (c .before .before .before .before .known .ensures), sym (c .before .before .before .size-fits .ensures) ∙ not-false _ (c .before .before .if2 .left), lt-leb _ _ (c .if3 .taken), and-false _)
+returns-3 c = rw (lt-leb _ _ (c .if3 .taken))
 
 returns-4 : tie.Need-returns-4
 unfolding entryFitsAs
-returns-4 c = rw (le-leb _ _ (c .before .before .before .before .before .before .if1 .left), sym (c .before .before .before .before .before .known .ensures), sym (c .before .before .before .before .size-fits .ensures) ∙ not-false _ (c .before .before .before .if2 .left), le-leb _ _ (c .before .if3 .left), lt-ltb _ _ (c .if4 .taken))
+returns-4 c = rw (le-leb _ _ (c .before .before .before .if3 .left), sym (c .before .before .known .ensures), sym (c .before .size-fits .ensures) ∙ not-true _ (c .if4 .taken))
 
 returns-5 : tie.Need-returns-5
 unfolding entryFitsAs
-returns-5 c = rw (le-leb _ _ (c .before .before .before .before .before .before .before .if1 .left), sym (c .before .before .before .before .before .before .known .ensures), sym (c .before .before .before .before .before .size-fits .ensures) ∙ not-false _ (c .before .before .before .before .if2 .left), le-leb _ _ (c .before .before .if3 .left), le-ltb _ _ (c .before .if4 .left), sym (c .is-fresh .ensures), and-true _)
+returns-5 c = rw (le-leb _ _ (c .before .before .before .before .if3 .left), sym (c .before .before .before .known .ensures), sym (c .before .before .size-fits .ensures) ∙ not-false _ (c .before .if4 .left), lt-ltb _ _ (c .before .before .before .before .before .before .if1 .left))
 
 pub entry-fits-spec : {M : Type 1} → statement M
 entry-fits-spec =
     tie.close
     (tie.spec
+    (λ c κs. search needs)
     returns
-    (λ c κs. search needs)
-    (λ c κs. search needs)
     returns-2
     returns-3
-    returns-4
     (λ c κs. search needs)
+    (λ c κs. search needs)
+    returns-4
     returns-5)

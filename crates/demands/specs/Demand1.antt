@@ -1,0 +1,30 @@
+-- Demand 1 of the host's calls: "A refused frame, or a packet's refused header or empty payload, changes nothing but the closing mark; any other refused call changes and writes nothing."
+use Prim.Native.Nat.{ℕ}
+use mathlib.Core.Path.{_≡_}
+use mathlib.Core.Bool.{false}
+use mathlib.Core.List.{List}
+use Rattle.answers.specs.declared.Answer.{Answer}
+use Rattle.frames.specs.declared.Kind.{Kind}
+use Rattle.streams.specs.declared.Mark.the-variants.{Code}
+use Rattle.streams.specs.Conn.{markedAs}
+use Rattle.streams.specs.Frames.{accepts}
+use Rattle.receive.specs.Taking.{begunOf}
+use Rattle.demands.specs.Hosts.{Host, answered, acted, withConn}
+use Rattle.demands.specs.Hosts.Act.{TakeFrame, TakePacket, RaiseCredit, RaiseStream, RaiseCount, OpenStream, HandOut}
+
+-- nothing changed, or nothing but the closing mark, which holds the answer and the type of a frame
+pub data Left (h : Host) (answer : Answer) : Host → Type 0 where
+  same : Left h answer h
+  shut : (ty : ℕ) → Left h answer (withConn h (markedAs (h .conn) (Code answer ty)))
+
+pub record Demand1 (h : Host) : Type 0 where
+  pub frame : (s : List ℕ) (at : ℕ) (kind : Kind) → accepts (answered h (TakeFrame s at kind)) ≡ false → Left h (answered h (TakeFrame s at kind)) (acted h (TakeFrame s at kind))
+  -- a packet that is refused before its frames
+  pub header : (first : ℕ) (s : List ℕ) → accepts (begunOf (h .conn) (h .records) (h .table) first s .answer) ≡ false → Left h (answered h (TakePacket first s)) (acted h (TakePacket first s))
+  -- "the number is not recorded"
+  pub unrecorded : (first : ℕ) (s : List ℕ) → accepts (answered h (TakePacket first s)) ≡ false → acted h (TakePacket first s) .records ≡ h .records
+  pub raise-credit : (new : ℕ) → accepts (answered h (RaiseCredit new)) ≡ false → acted h (RaiseCredit new) ≡ h
+  pub raise-stream : (id new : ℕ) → accepts (answered h (RaiseStream id new)) ≡ false → acted h (RaiseStream id new) ≡ h
+  pub raise-count : (ty new : ℕ) → accepts (answered h (RaiseCount ty new)) ≡ false → acted h (RaiseCount ty new) ≡ h
+  pub open-stream : (ty : ℕ) → accepts (answered h (OpenStream ty)) ≡ false → acted h (OpenStream ty) ≡ h
+  pub hand-out : (space : _) → accepts (answered h (HandOut space)) ≡ false → acted h (HandOut space) ≡ h

@@ -1,0 +1,1 @@
+// What holds across crates: what one writes, another reads as it was meant. Theorems alone: definitions in specs/, proofs in proofs/.
