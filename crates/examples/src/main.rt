@@ -7,6 +7,7 @@ mod marks;
 mod on_wire;
 mod packets;
 mod print;
+mod taken;
 
 fn main() {
     print::text(b"RFC 9000, A.1");
@@ -19,6 +20,7 @@ fn main() {
     edges::long();
     edges::short();
     packets::run();
+    taken::run();
     marks::jumps();
     marks::acknowledgements();
     again::all();

@@ -1,0 +1,59 @@
+// STATE: the connection's accounts, its closing mark, and the largest number of each record.
+use crate::say;
+use crate::session;
+use crate::session::Ran;
+use streams::Conn;
+use streams::Entry;
+use streams::Mark;
+use taking::Records;
+
+fn mark(out: &mut [u8; 16384], at: usize, m: Mark) -> usize {
+    match m {
+        Mark::Open => say::text(out, at, b" mark=-"),
+        Mark::Code { answer, ty } => {
+            let o = say::labelled(out, at, b" mark=code,", answer.number());
+            say::labelled(out, o, b",", ty)
+        },
+        Mark::ByPeer => say::text(out, at, b" mark=peer"),
+    }
+}
+
+// The largest number of a record, by its top: one above, or 0 if there is none.
+fn largest(out: &mut [u8; 16384], at: usize, before: &[u8], top: u64) -> usize {
+    let o = say::text(out, at, before);
+    if top == 0 {
+        return say::text(out, o, b"-1");
+    }
+    say::number(out, o, top - 1)
+}
+
+fn accounts(out: &mut [u8; 16384], at: usize, c: Conn) -> usize {
+    let o = say::labelled(out, at, b" total=", c.total);
+    let p = say::labelled(out, o, b" credit=", c.credit);
+    let q = say::labelled(out, p, b" counts=", c.count0);
+    let r = say::labelled(out, q, b",", c.count2);
+    let s = say::labelled(out, r, b" opened=", c.open0);
+    let t = say::labelled(out, s, b",", c.open1);
+    let u = say::labelled(out, t, b",", c.open2);
+    say::labelled(out, u, b",", c.open3)
+}
+
+// Writes a blank and STATE behind an answer, which is then whole.
+pub fn end(
+    out: &mut [u8; 16384],
+    at: usize,
+    c: Conn,
+    records: Records,
+    table: [Entry; 192],
+) -> Ran {
+    let o = accounts(out, at, c);
+    let m = c.mark;
+    let p = mark(out, o, m);
+    let q = largest(out, p, b" largest=", records.initial.top);
+    let r = largest(out, q, b",", records.handshake.top);
+    let len = largest(out, r, b",", records.application.top);
+    Ran {
+        session: session::of(c, records, table),
+        len,
+    }
+}

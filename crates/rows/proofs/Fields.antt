@@ -1,0 +1,138 @@
+-- The fields of a row: how long they are at most, how they make the row, and what stands at the front of a line that they were written to.
+-- Assumes nothing.
+use mathlib.Core.Path.{_≡_, refl, sym, _∙_}
+use mathlib.Core.List.{List, [], _∷_, _++_, append-assoc}
+use Prim.Native.Nat.{ℕ, zero, suc, _+_, _/_, _≤_, _<_}
+use native.Mathlib.Omega.{arith}
+use lib.Dec.{eqb}
+use lib.ListN.{length, set, take, replicate, length-append}
+use lib.Seq.{sets, sets-eq, length-sets, take-append-seam}
+use Rattle.answers.proofs.Choice.{holds}
+use Rattle.answers.specs.declared.Answer.{Answer}
+use Rattle.wire.specs.declared.Wrote.the-variants.{To, Refused}
+use Rattle.wire.proofs.Standing.{sets-append}
+use Rattle.text.specs.Text.{wroteTextOf, outTextOf}
+use Rattle.text.proofs.Steps.{accepted}
+use Rattle.text.specs.Decimal.{digitsOf, decimalOf}
+use Rattle.rows.specs.Row.{fieldOf, typeOf, shownOf, rowOf}
+use Rattle.rows.specs.declared.Shown.{Shown}
+use Rattle.rows.specs.declared.Shown.the-variants.{Is, Unread}
+
+digits-size : (k n : ℕ) → length (digitsOf k n) ≤ k
+unfolding digitsOf
+digits-size zero n = omega arith
+digits-size (suc k) n =
+    holds (λ (l : List ℕ). length l ≤ suc k) (eqb n 0) _ _
+    (λ p. omega arith)
+    (λ p. rw length-append (omega (arith, digits-size k (n / 10))))
+
+decimal-size : (n : ℕ) → length (decimalOf n) ≤ 20
+unfolding decimalOf
+decimal-size n = rw length-append (omega (arith, digits-size 19 (n / 10)))
+
+field-length : (n behind : ℕ) → length (fieldOf n behind) ≡ length (decimalOf n) + 1
+unfolding fieldOf
+field-length n behind = length-append (decimalOf n) (behind ∷ [])
+
+field-size : (n behind : ℕ) → length (fieldOf n behind) ≤ 21
+field-size n behind = omega (arith, field-length n behind, decimal-size n)
+
+-- a type is a field like a number, or a dash and a blank
+pub shown-number : (ty : ℕ) → shownOf (Is ty) ≡ fieldOf ty 32
+unfolding shownOf typeOf fieldOf
+shown-number ty = refl
+
+pub shown-dash : shownOf Unread ≡ 45 ∷ 32 ∷ []
+unfolding shownOf typeOf
+shown-dash = refl
+
+shown-size : (ty : Shown) → length (shownOf ty) ≤ 21
+shown-size (Is ty) = rw shown-number (field-size ty 32)
+shown-size Unread = rw shown-dash (omega arith)
+
+-- where there is room for the longest field, a number is written, and the byte behind it makes it a field
+module _ (line : List ℕ) (at n : ℕ) (room : at + 21 ≤ length line) where
+  wrote : (wroteTextOf (length line) at (decimalOf n) ≡ To (at + length (decimalOf n))) × (outTextOf line at (decimalOf n) ≡ sets line at (decimalOf n))
+  wrote = accepted line at (decimalOf n) (omega (arith, decimal-size n))
+
+  pub unrefused : {a : Answer} → wroteTextOf (length line) at (decimalOf n) ≡ Refused a → ⊥
+  unrefused e = let f = wrote .0 in let z : _≡_ {A = ℕ} 0 1 = cc in absurd (omega arith)
+
+  module _ {next : ℕ} (e : wroteTextOf (length line) at (decimalOf n) ≡ To next) where
+    ends : next ≡ at + length (decimalOf n)
+    ends = let f = wrote .0 in cc
+
+    pub next-within : next < length line
+    next-within = omega (arith, ends, decimal-size n)
+
+    pub next-stored : next < length (outTextOf line at (decimalOf n))
+    next-stored = rw (wrote .1, length-sets) next-within
+
+    pub field-written : (behind : ℕ) → (next + 1 ≡ at + length (fieldOf n behind)) × (set (outTextOf line at (decimalOf n)) next behind ≡ sets line at (fieldOf n behind))
+    unfolding fieldOf
+    field-written behind = (omega (arith, ends, length-append (decimalOf n) (behind ∷ [])), rw (wrote .1, ends) (sym (sets-append line at (decimalOf n) (behind ∷ []))))
+
+-- a line that was blank and now begins with l, of k bytes at most
+record Begun (blank l : List ℕ) (k to : ℕ) (line : List ℕ) : Type 0 where
+  ends : to ≡ length l
+  holds : line ≡ sets blank 0 l
+  short : length l ≤ k
+
+begin : (blank : List ℕ) → Begun blank [] 0 0 blank
+begin blank = record { ends = refl; holds = refl; short = omega arith }
+
+module _ {blank l : List ℕ} {k to : ℕ} {line : List ℕ} (b : Begun blank l k to line) where
+  -- one field more
+  more : (m : List ℕ) {to' : ℕ} {line' : List ℕ} → length m ≤ 21 → (to' ≡ to + length m) × (line' ≡ sets line to m) → Begun blank (l ++ m) (k + 21) to' line'
+  more m h e = record {
+    ends = e .0 ∙ rw length-append (omega (arith, b .ends));
+    holds = e .1 ∙ rw (b .ends, b .holds) (let z : 0 + length l ≡ length l = omega arith in sym (rw z at (sets-append blank 0 l m)));
+    short = rw length-append (omega (arith, b .short));
+  }
+
+  room : k + 21 ≤ length blank → to + 21 ≤ length line
+  room h = rw (b .holds, length-sets) (omega (arith, b .ends, b .short))
+
+  within : k ≤ length blank → to ≤ length line
+  within h = rw (b .holds, length-sets) (omega (arith, b .ends, b .short))
+
+  -- what it begins with is its front
+  front : k ≤ length blank → take to line ≡ l
+  front h = rw (b .ends, b .holds, sets-eq l blank 0 (omega (arith, b .short))) (take-append-seam l _)
+
+-- the four fields of a row, one after the other on a line with room for the longest: each has room, and together they are the row
+module _ (place : ℕ) (ty : Shown) (code total : ℕ) where
+  row-fields : ((fieldOf place 32 ++ shownOf ty) ++ fieldOf code 32) ++ fieldOf total 10 ≡ rowOf place ty code total
+  unfolding fieldOf shownOf rowOf
+  row-fields = simp append-assoc
+
+  module _ {a : ℕ} {la : List ℕ} (ea : (a ≡ 0 + length (fieldOf place 32)) × (la ≡ sets (replicate 84 0) 0 (fieldOf place 32))) where
+    with-place : Begun (replicate 84 0) (fieldOf place 32) 21 a la
+    with-place = more (begin (replicate 84 0)) (fieldOf place 32) (field-size place 32) ea
+
+    pub room-for-type : a + 21 ≤ length la
+    room-for-type = room with-place (omega arith)
+
+    module _ {b : ℕ} {lb : List ℕ} (eb : (b ≡ a + length (shownOf ty)) × (lb ≡ sets la a (shownOf ty))) where
+      with-type : Begun (replicate 84 0) (fieldOf place 32 ++ shownOf ty) 42 b lb
+      with-type = more with-place (shownOf ty) (shown-size ty) eb
+
+      pub room-for-code : b + 21 ≤ length lb
+      room-for-code = room with-type (omega arith)
+
+      module _ {d : ℕ} {ld : List ℕ} (ed : (d ≡ b + length (fieldOf code 32)) × (ld ≡ sets lb b (fieldOf code 32))) where
+        with-code : Begun (replicate 84 0) ((fieldOf place 32 ++ shownOf ty) ++ fieldOf code 32) 63 d ld
+        with-code = more with-type (fieldOf code 32) (field-size code 32) ed
+
+        pub room-for-total : d + 21 ≤ length ld
+        room-for-total = room with-code (omega arith)
+
+        module _ {e : ℕ} {le : List ℕ} (ee : (e ≡ d + length (fieldOf total 10)) × (le ≡ sets ld d (fieldOf total 10))) where
+          whole : Begun (replicate 84 0) (((fieldOf place 32 ++ shownOf ty) ++ fieldOf code 32) ++ fieldOf total 10) 84 e le
+          whole = more with-code (fieldOf total 10) (field-size total 10) ee
+
+          pub row-within : e ≤ length le
+          row-within = within whole (omega arith)
+
+          pub row-front : take e le ≡ rowOf place ty code total
+          row-front = front whole (omega arith) ∙ row-fields

@@ -1,0 +1,73 @@
+-- `row` meets its contract: each field has room behind those before it, together they are the row, and the front of the line is what is put.
+-- Assumes nothing.
+use mathlib.Core.Path.{sym, _∙_, ap}
+use borrow.Author.Needs.{needs}
+use lib.ListN.{length}
+use denote.Ref.{now}
+use lib.Seq.{length-take-le}
+use Rattle.text.specs.Text.{wroteTextOf, outTextOf}
+use Rattle.rows.proofs.Fields.{room-for-type, room-for-code, room-for-total, row-within, row-front}
+use Rattle.rows.proofs.row.Statement.{statement}
+use Rattle.rows.proofs.row.Tie as tie
+
+shown-type-requires : tie.Need-shown-type-requires
+shown-type-requires c κs =
+    let k = c .before .before in
+    let a = k .before .before .before .args in
+    room-for-type (a .place) (a .ty) (a .code) (a .total) (k .field .ensures)
+
+field-requires-2 : tie.Need-field-requires-2
+field-requires-2 c κs =
+    let h = c .before .before in
+    let k = h .before .before .before in
+    let a = k .before .before .before .args in
+    room-for-code (a .place) (a .ty) (a .code) (a .total) (k .field .ensures) (h .shown-type .ensures)
+
+field-requires-3 : tie.Need-field-requires-3
+field-requires-3 c κs =
+    let g = c .before .before in
+    let h = g .before .before .before in
+    let k = h .before .before .before in
+    let a = k .before .before .before .args in
+    room-for-total (a .place) (a .ty) (a .code) (a .total) (k .field .ensures) (h .shown-type .ensures) (g .field2 .ensures)
+
+array-share-prefix-line : tie.Need-array-share-prefix-line
+array-share-prefix-line c =
+    let f = c .before .before in
+    let g = f .before .before .before in
+    let h = g .before .before .before in
+    let k = h .before .before .before in
+    let a = k .before .before .before .args in
+    row-within (a .place) (a .ty) (a .code) (a .total) (k .field .ensures) (h .shown-type .ensures) (g .field2 .ensures) (f .field3 .ensures)
+
+slice-aggregate-bytes : tie.Need-slice-aggregate-bytes
+slice-aggregate-bytes c = sym (length-take-le _ _ (array-share-prefix-line (c .before)))
+
+returns : tie.Need-returns
+returns c =
+    let b = c .before .before in
+    let f = b .before .before .before .before in
+    let g = f .before .before .before in
+    let h = g .before .before .before in
+    let k = h .before .before .before in
+    let a = k .before .before .before .args in
+    let e = row-front (a .place) (a .ty) (a .code) (a .total) (k .field .ensures) (h .shown-type .ensures) (g .field2 .ensures) (f .field3 .ensures) in
+    (b .bytes .ensures .0 ∙ ap (wroteTextOf (length (now (a .out))) (a .at)) e, b .bytes .ensures .1 ∙ ap (outTextOf (now (a .out)) (a .at)) e)
+
+pub row-spec : {M : Type 1} → statement M
+row-spec =
+    tie.close
+    (tie.spec
+    (λ c. search needs)
+    (λ c κs. search needs)
+    (λ c. search needs)
+    shown-type-requires
+    (λ c. search needs)
+    field-requires-2
+    (λ c. search needs)
+    field-requires-3
+    array-share-prefix-line
+    slice-aggregate-bytes
+    (λ c κs. search needs)
+    (λ c. search needs)
+    returns)

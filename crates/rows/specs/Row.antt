@@ -1,0 +1,22 @@
+-- A row of the listing: place, type, code and total in decimal, a blank (32) behind each but the last, and a newline (10) behind that. A type that could not be read is a dash (45).
+use Prim.Native.Nat.{ℕ}
+use mathlib.Core.List.{List, [], _∷_, _++_}
+use Rattle.text.specs.Decimal.{decimalOf}
+use Rattle.rows.specs.declared.Shown.{Shown}
+use Rattle.rows.specs.declared.Shown.the-variants.{Is, Unread}
+
+-- a number and the byte behind it
+unfoldable pub fieldOf : ℕ → ℕ → List ℕ
+fieldOf n behind = decimalOf n ++ (behind ∷ [])
+
+-- a type
+unfoldable pub typeOf : Shown → List ℕ
+typeOf (Is ty) = decimalOf ty
+typeOf Unread = 45 ∷ []
+
+-- a type and the blank behind it
+unfoldable pub shownOf : Shown → List ℕ
+shownOf ty = typeOf ty ++ (32 ∷ [])
+
+unfoldable pub rowOf : ℕ → Shown → ℕ → ℕ → List ℕ
+rowOf place ty code total = decimalOf place ++ (32 ∷ typeOf ty ++ (32 ∷ decimalOf code ++ (32 ∷ decimalOf total ++ (10 ∷ []))))
