@@ -6,6 +6,6 @@ pub mod Owned
 pub mod Demand
 pub mod Anything
 pub mod Proved
-pub mod Rows
+pub mod Neighbours
 pub mod Contracts
 pub mod Borders

@@ -1,5 +1,5 @@
 pub mod History
 pub mod Run
 pub mod Demand3
-pub mod Rows
+pub mod Neighbours
 pub mod Borders
