@@ -6,3 +6,4 @@ pub mod Accounted
 pub mod Bench
 pub mod Refusals
 pub mod Recorded
+pub mod Packets

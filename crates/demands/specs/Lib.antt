@@ -4,4 +4,5 @@ pub mod Heard
 pub mod Demand1
 pub mod Demand3
 pub mod Recorded
+pub mod Packets
 pub mod Bench

@@ -1,0 +1,16 @@
+-- The borders of a packet's checks hold by computation.
+-- Assumes nothing.
+use mathlib.Core.Path.{refl}
+use Rattle.wire.specs.Number.{bigEndian}
+use Rattle.numbers.specs.Numbers.{nearestOf, recoveredOf}
+use Rattle.records.specs.Marks.{bit, bitAt, recorded, noneOf, testOf, unmarked, soundOf}
+use Rattle.records.specs.Ring.{wordOf, listOf, slotOf, ringOf, withMark, takenOf}
+use Rattle.streams.specs.Conn.{markedAs}
+use Rattle.streams.specs.Opening.{openedConn}
+use Rattle.taking.specs.First.{toldOf, sizeIn, reservedOf}
+use Rattle.taking.specs.Begin.{leftOf, closesOf, numberedOf, inSpaceOf}
+use Rattle.demands.specs.Packets.{Packets}
+
+pub packets : Packets
+unfolding bigEndian nearestOf recoveredOf bit bitAt recorded noneOf testOf unmarked soundOf wordOf listOf slotOf ringOf withMark takenOf markedAs openedConn toldOf sizeIn reservedOf leftOf closesOf numberedOf inSpaceOf
+packets = record { kinds = refl; sizes = refl; reserved = refl; order = refl }
