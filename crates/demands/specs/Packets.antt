@@ -10,7 +10,6 @@ use Rattle.records.specs.declared.Record.{Record}
 use Rattle.records.specs.Marks.{noneOf}
 use Rattle.records.specs.Ring.{takenOf}
 use Rattle.streams.specs.Opening.{openedConn}
-use Rattle.taking.specs.declared.Begun.{Begun}
 use Rattle.taking.specs.declared.Told.the-variants.{Carries, NoPacket}
 use Rattle.taking.specs.First.{toldOf, sizeIn, reservedOf}
 use Rattle.taking.specs.Begin.{inSpaceOf}
