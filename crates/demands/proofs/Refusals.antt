@@ -60,7 +60,7 @@ module _ (h : Host) (kind : Kind) (at : ℕ) where
   abbrev after : Reading → Host
   after r = withBoth h (turned (stateIn h) kind at r .stepped .conn) (turnedState (stateIn h) kind at r .table)
 
-  turn-left : (r : Reading) → Refusing r → accepts (turned (stateIn h) kind at r .stepped .answer) ≡ false → Left h (turned (stateIn h) kind at r .stepped .answer) (after r)
+  turn-left : (r : Reading) → Refusing r → accepts (turned (stateIn h) kind at r .stepped .answer) ≡ false → Left h (turned (stateIn h) kind at r .stepped .answer) (askedOf kind at r .ty) (after r)
   unfolding turnOf askedOf judgedOf settledOf
   turn-left (Got frame ty next) c = go (accepts (ruledOf (h .conn) e (Heard (viewOf kind frame)))) refl
     where
@@ -68,10 +68,10 @@ module _ (h : Host) (kind : Kind) (at : ℕ) where
       e = entryOf (h .table) (local.streamOf (Heard (viewOf kind frame)))
 
       go : (b : Bool) → accepts (ruledOf (h .conn) e (Heard (viewOf kind frame))) ≡ b → accepts (turned (stateIn h) kind at (Got frame ty next) .stepped .answer) ≡ false
-          → Left h (turned (stateIn h) kind at (Got frame ty next) .stepped .answer) (after (Got frame ty next))
+          → Left h (turned (stateIn h) kind at (Got frame ty next) .stepped .answer) ty (after (Got frame ty next))
       go true d = rw d none
-      go false d = rw (d, same-table (h .table) (framePlace (viewOf kind frame))) (λ f. shut ty)
-  turn-left (Refused answer ty) c = rw (c, same-table (h .table) 0) (λ f. shut ty)
+      go false d = rw (d, same-table (h .table) (framePlace (viewOf kind frame))) (λ f. shut)
+  turn-left (Refused answer ty) c = rw (c, same-table (h .table) 0) (λ f. shut)
 
   -- what passes the gate, and what does not
   abbrev judged : Handed → Reading → TookFrame
@@ -81,7 +81,7 @@ module _ (h : Host) (kind : Kind) (at : ℕ) where
   barred answer = record { answer = answer; handed = Nothing; conn = h .conn }
 
   frame-left : (b : Bool) (handed : Handed) (answer : Answer) (r : Reading) → Refusing r → accepts ((b ⇒ judged handed r ∣ barred answer) .answer) ≡ false
-      → Left h ((b ⇒ judged handed r ∣ barred answer) .answer) (withBoth h ((b ⇒ judged handed r ∣ barred answer) .conn) (b ⇒ turnedState (stateIn h) kind at r .table ∣ h .table))
+      → Left h ((b ⇒ judged handed r ∣ barred answer) .answer) (askedOf kind at r .ty) (withBoth h ((b ⇒ judged handed r ∣ barred answer) .conn) (b ⇒ turnedState (stateIn h) kind at r .table ∣ h .table))
   frame-left true handed answer r c e = turn-left r c e
   frame-left false handed answer r c e = same
 
@@ -104,14 +104,14 @@ module _ (h : Host) (s : List ℕ) where
   abbrev way : Begun → Stopped × List Entry
   way begun = walkAll (begun .conn) (h .table) s (begun .at) (begun .kind)
 
-  begun-left : (live fit : Bool) (begun : Begun) → Begins (h .conn) (length s) live fit begun → accepts (begun .answer) ≡ false → Left h (begun .answer) (withBoth h (way begun .0 .conn) (way begun .1))
+  begun-left : (live fit : Bool) (begun : Begun) → Begins (h .conn) (length s) live fit begun → accepts (begun .answer) ≡ false → Left h (begun .answer) 0 (withBoth h (way begun .0 .conn) (way begun .1))
   unfolding begin.closesOf begin.leftOf
   begun-left live fit _ (goes kind at number e) = none
-  begun-left live fit _ (closes e) = rw (walk-none (length s - length s) (markedAs (h .conn) (Code ProtocolViolation 0)) (h .table) s OneRtt) (λ d. shut 0)
+  begun-left live fit _ (closes e) = rw (walk-none (length s - length s) (markedAs (h .conn) (Code ProtocolViolation 0)) (h .table) s OneRtt) (λ d. shut)
   begun-left live fit _ (stays answer q) = rw (walk-none (length s - length s) (h .conn) (h .table) s OneRtt) (λ d. same)
 
   abbrev ends : Begun → Took → Type 0
-  ends begun x = Left h (x .answer) (record { conn = x .conn; table = way begun .1; records = x .records })
+  ends begun x = Left h (x .answer) 0 (record { conn = x .conn; table = way begun .1; records = x .records })
 
   header-left : (live fit : Bool) (begun : Begun) → Begins (h .conn) (length s) live fit begun → accepts (begun .answer) ≡ false → ends begun (finishOf begun (way begun .0) (h .records))
   header-left live fit begun b e = subst (ends begun) (sym (finish-refused begun (way begun .0) (h .records) e)) (begun-left live fit begun b e)

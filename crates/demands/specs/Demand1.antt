@@ -8,19 +8,21 @@ use Rattle.frames.specs.declared.Kind.{Kind}
 use Rattle.streams.specs.declared.Mark.the-variants.{Code}
 use Rattle.streams.specs.Conn.{markedAs}
 use Rattle.streams.specs.Frames.{accepts}
+use Rattle.taking.specs.Step.{askedAt}
 use Rattle.receive.specs.Taking.{begunOf}
 use Rattle.demands.specs.Hosts.{Host, answered, acted, withConn}
 use Rattle.demands.specs.Hosts.Act.{TakeFrame, TakePacket, RaiseCredit, RaiseStream, RaiseCount, OpenStream, HandOut}
 
--- nothing changed, or nothing but the closing mark, which holds the answer and the type of a frame
-pub data Left (h : Host) (answer : Answer) : Host → Type 0 where
-  same : Left h answer h
-  shut : (ty : ℕ) → Left h answer (withConn h (markedAs (h .conn) (Code answer ty)))
+-- nothing changed, or nothing but the closing mark, which holds the answer and a type
+pub data Left (h : Host) (answer : Answer) (ty : ℕ) : Host → Type 0 where
+  same : Left h answer ty h
+  shut : Left h answer ty (withConn h (markedAs (h .conn) (Code answer ty)))
 
 pub record Demand1 (h : Host) : Type 0 where
-  pub frame : (s : List ℕ) (at : ℕ) (kind : Kind) → accepts (answered h (TakeFrame s at kind)) ≡ false → Left h (answered h (TakeFrame s at kind)) (acted h (TakeFrame s at kind))
-  -- a packet that is refused before its frames
-  pub header : (first : ℕ) (s : List ℕ) → accepts (begunOf (h .conn) (h .records) (h .table) first s .answer) ≡ false → Left h (answered h (TakePacket first s)) (acted h (TakePacket first s))
+  -- the type is the frame's, 0 if none was read
+  pub frame : (s : List ℕ) (at : ℕ) (kind : Kind) → accepts (answered h (TakeFrame s at kind)) ≡ false → Left h (answered h (TakeFrame s at kind)) (askedAt s at kind .ty) (acted h (TakeFrame s at kind))
+  -- a packet that is refused before its frames: no type was read
+  pub header : (first : ℕ) (s : List ℕ) → accepts (begunOf (h .conn) (h .records) (h .table) first s .answer) ≡ false → Left h (answered h (TakePacket first s)) 0 (acted h (TakePacket first s))
   -- "the number is not recorded"
   pub unrecorded : (first : ℕ) (s : List ℕ) → accepts (answered h (TakePacket first s)) ≡ false → acted h (TakePacket first s) .records ≡ h .records
   pub raise-credit : (new : ℕ) → accepts (answered h (RaiseCredit new)) ≡ false → acted h (RaiseCredit new) ≡ h

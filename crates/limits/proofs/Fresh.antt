@@ -1,11 +1,12 @@
--- An unopened entry fits just where it is as opening set it, and its credit is within the ceiling.
+-- An unopened entry fits just where it is as opening set it, and its credit is within the ceiling; and the tests of that in a row.
 -- Assumes nothing.
-use mathlib.Core.Path.{_≡_, refl}
-use mathlib.Core.Bool.{true, false, not, _&&_, and-eq-true-iff, and-false, true≢false}
-use Prim.Native.Nat.{ℕ, _≤_}
+use mathlib.Core.Path.{_≡_, refl, _∙_}
+use mathlib.Core.Bool.{Bool, true, false, not, _&&_, and-assoc, and-eq-true-iff, and-false, true≢false}
+use Prim.Native.Nat.{ℕ, _-_, _^_, _≤_}
 use native.Mathlib.Omega.{arith}
 use borrow.Author.Tests.{eqb-true, le-leb, le-ltb}
 use lib.Dec.{leb, eqb}
+use Rattle.answers.specs.Choice.{_⇒_∣_}
 use Rattle.streams.specs.declared.Entry.{Entry}
 use Rattle.streams.specs.declared.Final.{Final}
 use Rattle.streams.specs.declared.Final.the-variants.{Unknown, Known}
@@ -28,3 +29,16 @@ fresh-fits opened init n e h f =
 pub changed-unfit : (opened init n : ℕ) (e : Entry) → opened ≤ n → isFresh e init ≡ false → entryFitsAs opened init n e ≡ false
 unfolding entryFitsAs
 changed-unfit opened init n e h f = rw (le-ltb n opened h, f, and-false (sizeFits (finalOf (e .size)) (e .end)), and-false (leb (e .end) (e .credit))) refl
+
+-- no final size is known where the number says so
+no-size : (size : ℕ) → eqb size (2 ^ 64 - 1) ≡ not (isKnown (finalOf size))
+unfolding finalOf
+no-size size = go (eqb size (2 ^ 64 - 1))
+  where
+    go : (b : Bool) → b ≡ not (isKnown (b ⇒ Unknown ∣ Known size))
+    go true = refl
+    go false = refl
+
+pub in-a-row : (b : Bool) (e : Entry) (init : ℕ) → (((b && eqb (e .credit) init) && eqb (e .end) 0) && eqb (e .size) (2 ^ 64 - 1)) ≡ (b && isFresh e init)
+unfolding isFresh
+in-a-row b e init = rw (no-size (e .size)) (and-assoc (b && eqb (e .credit) init) (eqb (e .end) 0) (not (isKnown (finalOf (e .size)))) ∙ and-assoc b (eqb (e .credit) init) (eqb (e .end) 0 && not (isKnown (finalOf (e .size)))))

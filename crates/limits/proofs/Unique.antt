@@ -18,6 +18,12 @@ use Rattle.limits.proofs.fits.conclude.Kinds as conclude
 use Rattle.limits.proofs.fits.conclude.Reads as conclude-reads
 use Rattle.limits.proofs.fits.conn_fits.Kinds as conn-fits
 use Rattle.limits.proofs.fits.conn_fits.Reads as conn-fits-reads
+use Rattle.limits.proofs.rest.opened_in.Kinds as opened-in
+use Rattle.limits.proofs.rest.opened_in.Reads as opened-in-reads
+use Rattle.limits.proofs.rest.untouched.Kinds as untouched
+use Rattle.limits.proofs.rest.untouched.Reads as untouched-reads
+use Rattle.limits.proofs.rest.with_rest.Kinds as with-rest
+use Rattle.limits.proofs.rest.with_rest.Reads as with-rest-reads
 
 pub raise-stream-firm : FirmAnswer 0 raise-stream.ps raise-stream.r raise-stream-reads.Asked raise-stream-reads.Post
 raise-stream-firm = record { asks-nothing = λ κs a. tt; one-outcome = λ κs a x y s t p q. p ∙ sym q }
@@ -42,3 +48,12 @@ conclude-firm = record { asks-nothing = λ κs a. tt; one-outcome = λ κs a x y
 
 pub conn-fits-firm : FirmAnswer 0 conn-fits.ps conn-fits.r conn-fits-reads.Asked conn-fits-reads.Post
 conn-fits-firm = record { asks-nothing = λ κs a. tt; one-outcome = λ κs a x y s t p q. p ∙ sym q }
+
+pub opened-in-firm : FirmAnswer 0 opened-in.ps opened-in.r opened-in-reads.Asked opened-in-reads.Post
+opened-in-firm = record { asks-nothing = λ κs a. tt; one-outcome = λ κs a x y s t p q. p ∙ sym q }
+
+pub untouched-firm : FirmAnswer 0 untouched.ps untouched.r untouched-reads.Asked untouched-reads.Post
+untouched-firm = record { asks-nothing = λ κs a. tt; one-outcome = λ κs a x y s t p q. p ∙ sym q }
+
+pub with-rest-firm : FirmAnswer 0 with-rest.ps with-rest.r with-rest-reads.Asked with-rest-reads.Post
+with-rest-firm = record { asks-nothing = λ κs a. tt; one-outcome = λ κs a x y s t p q. p ∙ sym q }

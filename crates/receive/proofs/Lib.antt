@@ -14,6 +14,7 @@ pub mod HandedCall
 pub mod Lent
 pub mod OneMoreCall
 pub mod OpenStreamCall
+pub mod OpenedInCall
 pub mod OpeningCall
 pub mod Padding
 pub mod PartCall
@@ -22,9 +23,13 @@ pub mod PlaceOfCall
 pub mod RaiseCountCall
 pub mod RaiseCreditCall
 pub mod RaiseStreamCall
+pub mod Rest
+pub mod RestCall
 pub mod StepCall
 pub mod Steps
 pub mod Tables
 pub mod TurnCall
 pub mod Unique
+pub mod UntouchedCall
 pub mod WalkCall
+pub mod WithRestCall

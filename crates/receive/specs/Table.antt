@@ -1,5 +1,6 @@
 -- The lent table as a whole: its check, entry after entry; its entries as opening sets them; and a stream's credit raised.
 use Prim.Native.Nat.{ℕ, zero, suc, _+_, _/_}
+use mathlib.Core.Bool.{Bool, true, _&&_}
 use mathlib.Core.List.{List}
 use lib.ListN.{length, set}
 use Rattle.answers.specs.Choice.{_⇒_∣_}
@@ -11,13 +12,18 @@ use Rattle.streams.specs.declared.Called.{Called}
 use Rattle.streams.specs.declared.Judged.{Judged}
 use Rattle.streams.specs.Entry.{placeOf, fresh, entryAt, entryOf}
 use Rattle.streams.specs.Frames.{raisedOf}
-use Rattle.streams.specs.Fits.{fits, summedOf}
+use Rattle.streams.specs.Fits.{isFresh, fits, summedOf}
 use Rattle.taking.specs.Local.{openingWhen, entriesOf, initialOf}
 
 -- the check of the first n entries from a place on, of a type of which so many are open and whose initial credit is init
 unfoldable pub summedTo : List Entry → ℕ → ℕ → ℕ → ℕ → Summed → ℕ → Summed
 summedTo t from credit opened init so-far zero = so-far
 summedTo t from credit opened init so-far (suc n) = summedOf credit opened init n (entryAt t (from + n)) (summedTo t from credit opened init so-far n)
+
+-- whether n entries from a place on are as opening sets them
+unfoldable pub untouchedTo : List Entry → ℕ → ℕ → ℕ → Bool
+untouchedTo t from init zero = true
+untouchedTo t from init (suc n) = untouchedTo t from init n && isFresh (entryAt t (from + n)) init
 
 -- the first n entries as opening sets them
 unfoldable pub filledTo : ℕ → List Entry → ℕ → ℕ → ℕ → List Entry

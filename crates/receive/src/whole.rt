@@ -1,14 +1,30 @@
 // The whole table: whether it fits its connection, type after type in one pass; and its entries as opening sets them.
 ghost use mathlib.Core.Path.{_≡_};
-ghost use Prim.Native.Nat.{_+_, _≤_};
+ghost use Prim.Native.Nat.{_+_, _-_, _≤_};
 ghost use lib.ListN.{length};
 ghost use Rattle.streams.specs.Fits;
-ghost use Rattle.receive.specs.Table.{summedTo, filledTo};
+ghost use Rattle.receive.specs.Table.{summedTo, untouchedTo, filledTo};
 use streams::Conn;
 use streams::Entry;
 use streams::Summed;
 
-// The check of the 64 entries of a type, from a place on.
+// Whether the entries of a type from an ordinal up to the last are as opening sets them; the first of them is at a place.
+pub(crate) fn rest(t: &[Entry], from: usize, ordinal: u64, initial: u64) -> bool
+    requires { ⌜ from + (64 - ordinal) ≤ length (now t) ⌝ }
+    ensures { λ r. ⌜ r ≡ untouchedTo (now (t .entry)) from initial (64 - ordinal) ⌝ }
+{
+    let mut same = true;
+    let mut n = ordinal;
+    let mut i = from;
+    while n < 64 {
+        same = limits::rest::untouched(same, t[i], initial);
+        n += 1;
+        i += 1;
+    }
+    same
+}
+
+// The check of the 64 entries of a type, from a place on: the opened ones one by one, the rest together.
 pub(crate) fn part(
     t: &[Entry],
     from: usize,
@@ -20,15 +36,17 @@ pub(crate) fn part(
     requires { ⌜ from + 64 ≤ length (now t) ⌝ }
     ensures { λ r. ⌜ r ≡ summedTo (now (t .entry)) from credit opened initial before 64 ⌝ }
 {
+    let to = limits::rest::opened_in(opened);
     let mut sum = before;
     let mut n: u64 = 0;
     let mut i = from;
-    while n < 64 {
+    while n < to {
         sum = limits::fits::one_more(credit, opened, initial, n, t[i], sum);
         n += 1;
         i += 1;
     }
-    sum
+    let same = rest(t, i, n, initial);
+    limits::rest::with_rest(credit, n, initial, sum, same)
 }
 
 // Whether the connection and its table fit: no 120.
