@@ -1,8 +1,9 @@
 // The calls of the list, and a line read as one of them. A line that is none of them is found out here, before it is
 // looked whether there is a connection: it answers "what" and not "none".
 use crate::line;
-use crate::line::Signed;
 use frames::Kind;
+use lines::words;
+use lines::words::Signed;
 use numbers::Size;
 use streams::Space;
 use text::decimal::Parsed;
@@ -465,7 +466,7 @@ pub fn read(s: &[u8], bytes: &mut [u8]) -> Call {
     if s[0] == 35 {
         return Call::Blank;
     }
-    let n = line::count(s);
+    let n = words::count(s);
     if n == 2 {
         return of_one(s, bytes);
     }

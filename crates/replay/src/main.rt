@@ -8,83 +8,73 @@ mod say;
 mod session;
 mod state;
 
+use lines::gather;
+use lines::gather::Line;
 use session::Session;
 
-// A line has at most so many bytes.
-const LONGEST: usize = 4096;
-
-// What was read leaves: the session, how much of a line is kept, and whether there may be more to read.
+// What was read leaves: the session, what is kept of a line, and whether there may be more to read.
 struct Fed {
     session: Session,
-    len: usize,
+    line: Line,
     more: bool,
 }
 
-// Keeps a byte of a line; one above the longest length stands for a line that is too long, however long.
-fn keep(row: &mut [u8; 4096], len: usize, byte: u8) -> usize {
-    if len < LONGEST {
-        row[len] = byte;
-        return len + 1;
-    }
-    LONGEST + 1
-}
-
 // Takes bytes as they come: each newline ends a line.
-fn feed(session: Session, row: &mut [u8; 4096], len: usize, s: &[u8]) -> Fed {
+fn feed(session: Session, row: &mut [u8; 4096], line: Line, s: &[u8]) -> Fed {
     let mut now = session;
-    let mut kept = len;
-    let mut i = 0;
-    while i < s.len() {
-        let byte = s[i];
-        if byte == 10 {
+    let mut kept = line;
+    let mut at = 0;
+    while at < s.len() {
+        let got = gather::gather(row, kept, &s[at..]);
+        at += got.used;
+        kept = got.line;
+        if got.ended {
             now = rows::ended(now, row, kept);
-            kept = 0;
-        } else {
-            kept = keep(row, kept, byte);
+            kept = Line::Kept { len: 0 };
         }
-        i += 1;
     }
     Fed {
         session: now,
-        len: kept,
+        line: kept,
         more: true,
     }
 }
 
 // Reads once, and takes what came.
-fn some(session: Session, row: &mut [u8; 4096], len: usize) -> Fed {
+fn some(session: Session, row: &mut [u8; 4096], line: Line) -> Fed {
     let mut chunk = [0u8; 4096];
     let got = libc::read(libc::STDIN_FILENO, &mut chunk);
     if got <= 0 {
         return Fed {
             session,
-            len,
+            line,
             more: false,
         };
     }
     let n = io::count(got, &chunk);
-    feed(session, row, len, &chunk[..n])
+    feed(session, row, line, &chunk[..n])
 }
 
 // Runs the last line, which may lack its newline.
-fn last(session: Session, row: &[u8; 4096], len: usize) {
-    rows::ended(session, row, len);
+fn last(session: Session, row: &[u8; 4096], line: Line) {
+    rows::ended(session, row, line);
 }
 
 // The turns are more than there can be reads: the loop ends with the input.
 fn main() {
     let mut now = session::empty();
+    // a line has at most so many bytes
     let mut row = [0u8; 4096];
-    let mut len = 0;
+    let mut line = Line::Kept { len: 0 };
     let mut left = u64::MAX;
     while 0 < left {
-        let fed = some(now, &mut row, len);
+        let fed = some(now, &mut row, line);
         now = fed.session;
-        len = fed.len;
+        line = fed.line;
         left -= 1;
         if !fed.more {
             left = 0;
         }
     }
-    last(now, &row, len);
+    last(now, &row, line);
 }

@@ -6,6 +6,7 @@ use crate::calls::Call;
 use crate::say;
 use crate::session::Ran;
 use crate::session::Session;
+use lines::gather::Line;
 
 fn answer(now: Session, call: Call, s: &[u8], out: &mut [u8; 16384]) -> Ran {
     match call {
@@ -46,11 +47,21 @@ fn run(now: Session, s: &[u8]) -> Session {
     ran.session
 }
 
-// Runs the line of the first bytes of s; one of more bytes than s has is too long.
-pub fn ended(now: Session, s: &[u8], len: usize) -> Session {
-    if s.len() < len {
-        io::write_all(libc::STDOUT_FILENO, b"too long\n");
-        return now;
+// The first bytes of a row, all if there are fewer.
+fn front(row: &[u8], len: usize) -> &[u8] {
+    if row.len() < len {
+        return row;
     }
-    run(now, &s[0..len])
+    &row[0..len]
+}
+
+// Runs the line that is kept at the front of a row.
+pub fn ended(now: Session, row: &[u8], line: Line) -> Session {
+    match line {
+        Line::Kept { len } => run(now, front(row, len)),
+        Line::TooLong => {
+            io::write_all(libc::STDOUT_FILENO, b"too long\n");
+            now
+        },
+    }
 }

@@ -1,0 +1,7 @@
+pub mod Counting
+pub mod Finding
+pub mod Signs
+pub mod Gathering
+pub mod Joined
+pub mod Pieces
+pub mod Unique

@@ -1,0 +1,3 @@
+// Text as lines, and lines as words.
+pub mod gather;
+pub mod words;

@@ -1,0 +1,111 @@
+// A line as words with single blanks between them, and each word as a number or bytes.
+ghost use mathlib.Core.Path.{_≡_};
+ghost use Prim.Native.Nat.{_≤_};
+ghost use lib.ListN.{length, drop};
+ghost use Rattle.lines.specs.Words.{countOf, behindBlank, wordOf, signedOf, minusOf, plusOf, bytesOf, outBytesOf};
+ghost use Rattle.text.specs.Decimal.{parsedOf};
+use text::decimal;
+use text::decimal::Parsed;
+use text::hex;
+use text::hex::Pairs;
+use text::words;
+
+// A number with or without "-" before it.
+pub enum Signed {
+    Plus { value: u64 },
+    Minus { value: u64 },
+    Wrong,
+}
+
+// How many words a line has; 0 where one is empty: a blank at either end, or two together.
+pub fn count(s: &[u8]) -> usize
+    ensures { λ r. ⌜ r ≡ countOf (now (s .entry)) ⌝ }
+{
+    let mut blanks = 0;
+    let mut last = 32;
+    let mut i = 0;
+    while i < s.len() {
+        let c = s[i];
+        if c == 32 {
+            if last == 32 {
+                return 0;
+            }
+            blanks += 1;
+        }
+        last = c;
+        i += 1;
+    }
+    if last == 32 {
+        return 0;
+    }
+    blanks + 1
+}
+
+// The place behind the first blank, or the end.
+fn past(s: &[u8]) -> usize
+    ensures { λ r. ⌜ (r ≤ length (now (s .entry))) × (drop r (now (s .entry)) ≡ behindBlank (now (s .entry))) ⌝ }
+{
+    let end = words::word_end(s, 0);
+    if end < s.len() {
+        return end + 1;
+    }
+    end
+}
+
+// A word of a line; they count from 0, and one that is not there is empty.
+pub fn word(s: &[u8], n: usize) -> &[u8]
+    ensures { λ r. ⌜ now r ≡ wordOf (now (s .entry)) n ⌝ }
+{
+    let mut rest = s;
+    let mut left = n;
+    while 0 < left {
+        let at = past(rest);
+        rest = &rest[at..];
+        left -= 1;
+    }
+    let end = words::word_end(rest, 0);
+    &rest[0..end]
+}
+
+// A number that stands behind "-".
+fn negative(digits: &[u8]) -> Signed
+    ensures { λ r. ⌜ r ≡ minusOf (parsedOf (now (digits .entry))) ⌝ }
+{
+    match decimal::read(digits) {
+        Parsed::Is { value } => Signed::Minus { value },
+        Parsed::Wrong => Signed::Wrong,
+    }
+}
+
+// A number that stands alone.
+fn positive(digits: &[u8]) -> Signed
+    ensures { λ r. ⌜ r ≡ plusOf (parsedOf (now (digits .entry))) ⌝ }
+{
+    match decimal::read(digits) {
+        Parsed::Is { value } => Signed::Plus { value },
+        Parsed::Wrong => Signed::Wrong,
+    }
+}
+
+// A word as a number that may have "-" before its digits.
+pub fn with_sign(word: &[u8]) -> Signed
+    ensures { λ r. ⌜ r ≡ signedOf (now (word .entry)) ⌝ }
+{
+    if word.len() == 0 {
+        return Signed::Wrong;
+    }
+    if word[0] == 45 {
+        return negative(&word[1..]);
+    }
+    positive(word)
+}
+
+// A word as bytes, which go to the front of the output: pairs of digits, or "-" for none.
+pub fn bytes(word: &[u8], out: &mut [u8]) -> Pairs
+    ensures { λ r. ⌜ (r ≡ bytesOf (length (now (out .entry))) (now (word .entry))) × (now (out .exit) ≡ outBytesOf (now (out .entry)) (now (word .entry))) ⌝ }
+{
+    if words::same(word, b"-") {
+        return Pairs::Are { count: 0 };
+    }
+    hex::read(word, out)
+}
