@@ -1,7 +1,7 @@
 -- A line as words with single blanks (32) between them, and what a word is: a number with or without a sign, or bytes.
 use Prim.Native.Nat.{ℕ, zero, suc, _<_}
 use mathlib.Core.Path.{_≡_}
-use mathlib.Core.Bool.{Bool, true, not, _&&_, _||_}
+use mathlib.Core.Bool.{Bool, true, false, not, _&&_, _||_}
 use mathlib.Core.List.{List, [], _∷_, _++_}
 use lib.ListN.{length, take, drop}
 use lib.Dec.{eqb}
@@ -51,21 +51,19 @@ firstWord s = take (before 32 s) s
 unfoldable pub wordOf : List ℕ → ℕ → List ℕ
 wordOf s n = firstWord (fromWord s n)
 
--- a number without and with a sign before it
-unfoldable pub plusOf : Parsed → Signed
-plusOf (Parsed'.Is value) = Plus value
-plusOf Parsed'.Wrong = Wrong
-
-unfoldable pub minusOf : Parsed → Signed
-minusOf (Parsed'.Is value) = Minus value
-minusOf Parsed'.Wrong = Wrong
+-- a number with "-" before it, or without
+unfoldable pub asSigned : Bool → Parsed → Signed
+asSigned minus (Parsed'.Is value) =
+    minus ⇒ Minus value
+    ∣ Plus value
+asSigned minus Parsed'.Wrong = Wrong
 
 -- a word as a number that may have "-" (45) before its digits
 unfoldable pub signedOf : List ℕ → Signed
 signedOf [] = Wrong
 signedOf (x ∷ w) =
-    eqb x 45 ⇒ minusOf (parsedOf w)
-    ∣ plusOf (parsedOf (x ∷ w))
+    eqb x 45 ⇒ asSigned true (parsedOf w)
+    ∣ asSigned false (parsedOf (x ∷ w))
 
 -- "-" stands for no bytes
 unfoldable pub isNone : List ℕ → Bool

@@ -2,7 +2,7 @@
 ghost use mathlib.Core.Path.{_≡_};
 ghost use Prim.Native.Nat.{_≤_};
 ghost use lib.ListN.{length, drop};
-ghost use Rattle.lines.specs.Words.{countOf, behindBlank, wordOf, signedOf, minusOf, plusOf, bytesOf, outBytesOf};
+ghost use Rattle.lines.specs.Words.{countOf, behindBlank, wordOf, asSigned, signedOf, bytesOf, outBytesOf};
 ghost use Rattle.text.specs.Decimal.{parsedOf};
 use text::decimal;
 use text::decimal::Parsed;
@@ -67,24 +67,17 @@ pub fn word(s: &[u8], n: usize) -> &[u8]
     &rest[0..end]
 }
 
-// A number that stands behind "-".
-fn negative(digits: &[u8]) -> Signed
-    ensures { λ r. ⌜ r ≡ minusOf (parsedOf (now (digits .entry))) ⌝ }
+// Digits as a number with the sign that stood before them.
+fn of_sign(minus: bool, digits: &[u8]) -> Signed
+    ensures { λ r. ⌜ r ≡ asSigned minus (parsedOf (now (digits .entry))) ⌝ }
 {
-    match decimal::read(digits) {
-        Parsed::Is { value } => Signed::Minus { value },
-        Parsed::Wrong => Signed::Wrong,
+    let Parsed::Is { value } = decimal::read(digits) else {
+        return Signed::Wrong;
+    };
+    if minus {
+        return Signed::Minus { value };
     }
-}
-
-// A number that stands alone.
-fn positive(digits: &[u8]) -> Signed
-    ensures { λ r. ⌜ r ≡ plusOf (parsedOf (now (digits .entry))) ⌝ }
-{
-    match decimal::read(digits) {
-        Parsed::Is { value } => Signed::Plus { value },
-        Parsed::Wrong => Signed::Wrong,
-    }
+    Signed::Plus { value }
 }
 
 // A word as a number that may have "-" before its digits.
@@ -95,9 +88,9 @@ pub fn with_sign(word: &[u8]) -> Signed
         return Signed::Wrong;
     }
     if word[0] == 45 {
-        return negative(&word[1..]);
+        return of_sign(true, &word[1..]);
     }
-    positive(word)
+    of_sign(false, word)
 }
 
 // A word as bytes, which go to the front of the output: pairs of digits, or "-" for none.

@@ -14,12 +14,12 @@ returns c = sym (no-digits (now (c .before .before .args .word)) (c .if1 .taken)
 returns-2 : tie.Need-returns-2
 returns-2 c =
     let t = c .before .before in
-    c .negative .ensures ∙ sym (behind-dash (now (t .before .before .before .before .args .word)) (omega arith) (t .if2 .taken))
+    c .of-sign .ensures ∙ sym (behind-dash (now (t .before .before .before .before .args .word)) (omega arith) (t .if2 .taken))
 
 returns-3 : tie.Need-returns-3
 returns-3 c =
     let t = c .before in
-    c .positive .ensures ∙ sym (no-dash (now (t .before .before .before .before .args .word)) (omega arith) (t .if2 .left))
+    c .of-sign2 .ensures ∙ sym (no-dash (now (t .before .before .before .before .args .word)) (omega arith) (t .if2 .left))
 
 pub with-sign-spec : {M : Type 1} → statement M
 with-sign-spec =
