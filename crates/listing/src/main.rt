@@ -2,13 +2,10 @@
 mod output;
 mod walk;
 
-// The longest payload: what a UDP datagram can carry.
-const MOST: usize = 65527;
-
 fn main() {
     let mut input = io::large_buffer();
     let n = io::read_full(libc::STDIN_FILENO, &mut input);
-    if MOST < n {
+    if rows::taken::too_long(n) {
         output::text(b"too long\n");
         return;
     }

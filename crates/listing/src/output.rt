@@ -1,7 +1,6 @@
 // What the listing writes: rows, gathered in a buffer that is written when it is full, and single lines.
-use rows::Shown;
+use rows::taken;
 use streams::Mark;
-use taking::Handed;
 use taking::TookFrame;
 use wire::Wrote;
 
@@ -16,29 +15,11 @@ pub fn flush(buf: &[u8], used: usize) {
     }
 }
 
-fn shown(handed: Handed) -> Shown {
-    match handed {
-        Handed::Nothing => Shown::Unread,
-        Handed::Named { ty } => Shown::Is { ty },
-        Handed::Whole {
-            frame: _,
-            ty,
-            next: _,
-        } => Shown::Is { ty },
-    }
-}
-
 // Adds a frame's row to the buffer, after writing what is gathered if there is no room left for it, and answers how much is gathered then.
 pub fn add(buf: &mut [u8], used: usize, place: usize, took: TookFrame) -> usize {
-    let handed = took.handed;
-    let ty = shown(handed);
-    let answer = took.answer;
-    let code = answer.number();
-    let conn = took.conn;
-    let total = conn.total;
-    let Wrote::To { next } = rows::row(buf, used, place, ty, code, total) else {
+    let Wrote::To { next } = taken::taken_row(buf, used, place, took) else {
         flush(buf, used);
-        let Wrote::To { next } = rows::row(buf, 0, place, ty, code, total) else {
+        let Wrote::To { next } = taken::taken_row(buf, 0, place, took) else {
             return 0;
         };
         return next;
@@ -48,13 +29,9 @@ pub fn add(buf: &mut [u8], used: usize, place: usize, took: TookFrame) -> usize 
 
 // The last line: how the connection stands.
 pub fn standing(mark: Mark) {
-    match mark {
-        Mark::Open => text(b"open\n"),
-        Mark::Code { answer, ty: _ } => {
-            text(b"closed ");
-            io::print_decimal(libc::STDOUT_FILENO, answer.number());
-            text(b"\n");
-        }
-        Mark::ByPeer => text(b"closed by peer\n"),
-    }
+    let mut line = [0u8; 32];
+    let Wrote::To { next } = taken::ending(&mut line, 0, mark) else {
+        return;
+    };
+    flush(&line, next);
 }

@@ -2,31 +2,11 @@
 use crate::output;
 use answers::Answer;
 use frames::Kind;
+use rows::taken;
 use streams::Conn;
 use streams::Entry;
 use streams::Mark;
 use streams::Opened;
-use taking::Handed;
-use taking::TookFrame;
-
-// Where the walk goes on after a frame: at the end if the frame closed the connection.
-fn after(took: TookFrame, end: usize) -> usize {
-    let conn = took.conn;
-    let mark = conn.mark;
-    if !mark.is_open() {
-        return end;
-    }
-    let handed = took.handed;
-    let Handed::Whole {
-        frame: _,
-        ty: _,
-        next,
-    } = handed
-    else {
-        return end;
-    };
-    next
-}
 
 // Rows for the frames of a payload, of which there are no more than bytes; answers how the connection stands after them.
 fn walk(conn: Conn, table: [Entry; 192], s: &[u8], buf: &mut [u8]) -> Mark {
@@ -41,7 +21,7 @@ fn walk(conn: Conn, table: [Entry; 192], s: &[u8], buf: &mut [u8]) -> Mark {
         let held = held::take_frame(c, t, s, at, Kind::OneRtt);
         let took = held.took;
         used = output::add(buf, used, at, took);
-        at = after(took, s.len());
+        at = taken::after(took, s.len());
         let entries = held.table;
         t = entries;
         let left = took.conn;

@@ -15,6 +15,7 @@ use Rattle.text.specs.Text.{wroteTextOf, outTextOf}
 use Rattle.text.proofs.Steps.{accepted}
 use Rattle.text.specs.Decimal.{digitsOf, decimalOf}
 use Rattle.rows.specs.Row.{fieldOf, typeOf, shownOf, rowOf}
+use Rattle.rows.specs.Listing.{closedText}
 use Rattle.rows.specs.declared.Shown.{Shown}
 use Rattle.rows.specs.declared.Shown.the-variants.{Is, Unread}
 
@@ -136,3 +137,22 @@ module _ (place : ℕ) (ty : Shown) (code total : ℕ) where
 
           pub row-front : take e le ≡ rowOf place ty code total
           row-front = front whole (omega arith) ∙ row-fields
+
+-- the last line of a connection that was closed with a code: the text, and the code behind it
+module _ (code : ℕ) {la : List ℕ} (ea : la ≡ outTextOf (replicate 42 0) 0 closedText) where
+  with-text : Begun (replicate 42 0) closedText 21 7 la
+  unfolding closedText
+  with-text = more (begin (replicate 42 0)) closedText (omega arith) (refl, ea ∙ accepted (replicate 42 0) 0 closedText (omega arith) .1)
+
+  pub room-for-number : 7 + 21 ≤ length la
+  room-for-number = room with-text (omega arith)
+
+  module _ {e : ℕ} {le : List ℕ} (ee : (e ≡ 7 + length (fieldOf code 10)) × (le ≡ sets la 7 (fieldOf code 10))) where
+    with-number : Begun (replicate 42 0) (closedText ++ fieldOf code 10) 42 e le
+    with-number = more with-text (fieldOf code 10) (field-size code 10) ee
+
+    pub closed-within : e ≤ length le
+    closed-within = within with-number (omega arith)
+
+    pub closed-front : take e le ≡ closedText ++ fieldOf code 10
+    closed-front = front with-number (omega arith)

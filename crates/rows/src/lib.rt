@@ -1,4 +1,6 @@
 // A row of the listing (document 01, "Bench examples"): place, type, code and total of a frame in decimal, single blanks between them, and a newline.
+pub mod taken;
+
 ghost use mathlib.Core.Path.{_≡_};
 ghost use Prim.Native.Nat.{_+_, _≤_};
 ghost use lib.ListN.{length};
@@ -19,7 +21,7 @@ pub enum Shown {
 const MOST: usize = 84;
 
 // Writes a number and the byte behind it where there is room for the longest, and answers the place after them.
-fn field(line: &mut [u8], at: usize, n: u64, behind: u8) -> usize
+pub(crate) fn field(line: &mut [u8], at: usize, n: u64, behind: u8) -> usize
     requires { ⌜ at + 21 ≤ length (now line) ⌝ }
     ensures { λ r. ⌜ (r ≡ at + length (fieldOf n behind)) × (now (line .exit) ≡ sets (now (line .entry)) at (fieldOf n behind)) ⌝ }
 {

@@ -1,0 +1,45 @@
+-- `taken::ending` meets its contract: the match is the definition's, and each line is put whole.
+-- Assumes nothing.
+use borrow.Author.Needs.{needs}
+use Rattle.rows.specs.Listing.{closedText, endingOf}
+use Rattle.rows.proofs.taken.ending.Statement.{statement}
+use Rattle.rows.proofs.taken.ending.Tie as tie
+
+returns : tie.Need-returns
+unfolding endingOf
+returns c =
+    let b = c .before .before in
+    rw (b .before .before .before .enum-told .given .1) (b .bytes .ensures .0, b .bytes .ensures .1)
+
+returns-2 : tie.Need-returns-2
+unfolding endingOf
+returns-2 c =
+    let d = c .before .before in
+    let n = d .before in
+    rw (n .before .before .before .mark .given .1, ← n .number .ensures) (d .closed .ensures .0, d .closed .ensures .1)
+
+returns-3 : tie.Need-returns-3
+unfolding closedText endingOf
+returns-3 c =
+    let b = c .before .before in
+    rw (b .before .before .before .enum-told2 .given .1) (b .bytes2 .ensures .0, b .bytes2 .ensures .1)
+
+pub ending-spec : {M : Type 1} → statement M
+ending-spec =
+    tie.close
+    (tie.spec
+    (λ c. search needs)
+    (λ c. search needs)
+    (λ c κs. search needs)
+    (λ c. search needs)
+    (λ c. search needs)
+    (λ c κs. search needs)
+    (λ c. search needs)
+    (λ c. search needs)
+    (λ c κs. search needs)
+    (λ c. search needs)
+    returns
+    (λ c. search needs)
+    returns-2
+    (λ c. search needs)
+    returns-3)

@@ -1,0 +1,23 @@
+-- `taken::taken_row` meets its contract: the row has the type shown, the answer's number and the total.
+-- Assumes nothing.
+use borrow.Author.Needs.{needs}
+use Rattle.rows.specs.Listing.{takenRowOf}
+use Rattle.rows.proofs.taken.taken_row.Statement.{statement}
+use Rattle.rows.proofs.taken.taken_row.Tie as tie
+
+returns : tie.Need-returns
+unfolding takenRowOf
+returns c =
+    let r = c .before .before in
+    let n = r .before .before .before in
+    rw (← n .before .shown .ensures, ← n .number .ensures) (r .row .ensures .0, r .row .ensures .1)
+
+pub taken-row-spec : {M : Type 1} → statement M
+taken-row-spec =
+    tie.close
+    (tie.spec
+    (λ c. search needs)
+    (λ c. search needs)
+    (λ c κs. search needs)
+    (λ c. search needs)
+    returns)

@@ -1,0 +1,52 @@
+-- What the listing shows of each frame that is taken, where it goes on, and its last line (document 01, "Bench examples").
+use Prim.Native.Nat.{ℕ}
+use mathlib.Core.Bool.{Bool}
+use mathlib.Core.List.{List, [], _∷_, _++_}
+use lib.Dec.{ltb}
+use Rattle.answers.specs.Choice.{_⇒_∣_}
+use Rattle.answers.specs.Answers.{numberOf}
+use Rattle.streams.specs.declared.Mark.{Mark}
+use Rattle.streams.specs.declared.Mark.the-variants.{Open, Code, ByPeer}
+use Rattle.streams.specs.Conn.{isOpen}
+use Rattle.taking.specs.declared.Handed.{Handed}
+use Rattle.taking.specs.declared.Handed.the-variants.{Nothing, Named, Whole}
+use Rattle.taking.specs.declared.TookFrame.{TookFrame}
+use Rattle.rows.specs.Row.{fieldOf, rowOf}
+use Rattle.rows.specs.declared.Shown.{Shown}
+use Rattle.rows.specs.declared.Shown.the-variants.{Is, Unread}
+
+-- "at most 65,527 bytes"
+unfoldable pub tooLong : ℕ → Bool
+tooLong n = ltb 65527 n
+
+-- "its type ("-" if unreadable)"
+unfoldable pub typeShown : Handed → Shown
+typeShown Nothing = Unread
+typeShown (Named ty) = Is ty
+typeShown (Whole frame ty next) = Is ty
+
+-- "byte place of the frame, its type, its answer, total after it"
+unfoldable pub takenRowOf : ℕ → TookFrame → List ℕ
+takenRowOf place took = rowOf place (typeShown (took .handed)) (numberOf (took .answer)) (took .conn .total)
+
+-- the place after a frame that was handed over whole
+unfoldable pub nextIn : Handed → ℕ → ℕ
+nextIn Nothing end = end
+nextIn (Named ty) end = end
+nextIn (Whole frame ty next) end = next
+
+-- where the next frame stands: a closed connection takes none, as at the end
+unfoldable pub afterOf : TookFrame → ℕ → ℕ
+afterOf took end =
+    isOpen (took .conn .mark) ⇒ nextIn (took .handed) end
+    ∣ end
+
+-- "closed ", before a code
+unfoldable pub closedText : List ℕ
+closedText = 99 ∷ 108 ∷ 111 ∷ 115 ∷ 101 ∷ 100 ∷ 32 ∷ []
+
+-- "the last line is "open", "closed" with a code, or "closed by peer""
+unfoldable pub endingOf : Mark → List ℕ
+endingOf Open = 111 ∷ 112 ∷ 101 ∷ 110 ∷ 10 ∷ []
+endingOf (Code answer ty) = closedText ++ fieldOf (numberOf answer) 10
+endingOf ByPeer = closedText ++ (98 ∷ 121 ∷ 32 ∷ 112 ∷ 101 ∷ 101 ∷ 114 ∷ 10 ∷ [])

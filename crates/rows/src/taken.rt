@@ -1,0 +1,88 @@
+// What the listing writes of a frame that was taken, where it goes on, and its last line.
+ghost use mathlib.Core.Path.{_≡_};
+ghost use mathlib.Core.List.{_++_};
+ghost use lib.ListN.{length};
+ghost use Rattle.text.specs.Text.{wroteTextOf, outTextOf};
+ghost use Rattle.rows.specs.Row.{fieldOf};
+ghost use Rattle.rows.specs.Listing.{tooLong, typeShown, takenRowOf, afterOf, closedText, endingOf};
+use crate::Shown;
+use streams::Mark;
+use taking::Handed;
+use taking::TookFrame;
+use text::put;
+use wire::Wrote;
+
+// Whether a payload is longer than what a UDP datagram can carry.
+pub fn too_long(n: usize) -> bool
+    ensures { λ r. ⌜ r ≡ tooLong n ⌝ }
+{
+    65527 < n
+}
+
+fn shown(handed: Handed) -> Shown
+    ensures { λ r. ⌜ r ≡ typeShown handed ⌝ }
+{
+    match handed {
+        Handed::Nothing => Shown::Unread,
+        Handed::Named { ty } => Shown::Is { ty },
+        Handed::Whole {
+            frame: _,
+            ty,
+            next: _,
+        } => Shown::Is { ty },
+    }
+}
+
+// Writes the row of a frame at a place of the output. A refusal leaves the output untouched.
+pub fn taken_row(out: &mut [u8], at: usize, place: usize, took: TookFrame) -> Wrote
+    ensures { λ r. ⌜ (r ≡ wroteTextOf (length (now (out .entry))) at (takenRowOf place took)) × (now (out .exit) ≡ outTextOf (now (out .entry)) at (takenRowOf place took)) ⌝ }
+{
+    let handed = took.handed;
+    let ty = shown(handed);
+    let answer = took.answer;
+    let code = answer.number();
+    let conn = took.conn;
+    crate::row(out, at, place, ty, code, conn.total)
+}
+
+// Where the walk goes on after a frame: at the end if the frame closed the connection.
+pub fn after(took: TookFrame, end: usize) -> usize
+    ensures { λ r. ⌜ r ≡ afterOf took end ⌝ }
+{
+    let conn = took.conn;
+    let mark = conn.mark;
+    if !mark.is_open() {
+        return end;
+    }
+    let handed = took.handed;
+    match handed {
+        Handed::Nothing => end,
+        Handed::Named { ty: _ } => end,
+        Handed::Whole {
+            frame: _,
+            ty: _,
+            next,
+        } => next,
+    }
+}
+
+// The last line of a connection that was closed with a code.
+fn closed(out: &mut [u8], at: usize, code: u64) -> Wrote
+    ensures { λ r. ⌜ (r ≡ wroteTextOf (length (now (out .entry))) at (closedText ++ fieldOf code 10)) × (now (out .exit) ≡ outTextOf (now (out .entry)) at (closedText ++ fieldOf code 10)) ⌝ }
+{
+    let mut line = [0u8; 42];
+    put::bytes(&mut line, 0, b"closed ");
+    let end = crate::field(&mut line, 7, code, b'\n');
+    put::bytes(out, at, &line[..end])
+}
+
+// Writes the last line: how the connection stands. A refusal leaves the output untouched.
+pub fn ending(out: &mut [u8], at: usize, mark: Mark) -> Wrote
+    ensures { λ r. ⌜ (r ≡ wroteTextOf (length (now (out .entry))) at (endingOf mark)) × (now (out .exit) ≡ outTextOf (now (out .entry)) at (endingOf mark)) ⌝ }
+{
+    match mark {
+        Mark::Open => put::bytes(out, at, b"open\n"),
+        Mark::Code { answer, ty: _ } => closed(out, at, answer.number()),
+        Mark::ByPeer => put::bytes(out, at, b"closed by peer\n"),
+    }
+}
