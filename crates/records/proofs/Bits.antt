@@ -70,7 +70,7 @@ kept-mid w lo hi h =
     }
 
 -- `|` bit by bit
-bit-or : (a b i : ℕ) → bit (bitOr a b) i ≡ max (bit a i) (bit b i)
+pub bit-or : (a b i : ℕ) → bit (bitOr a b) i ≡ max (bit a i) (bit b i)
 unfolding bit
 bit-or a b i =
     ap (λ (x : ℕ). x % 2) (or-shr a b i ∙ or-step (a / 2 ^ i) (b / 2 ^ i))

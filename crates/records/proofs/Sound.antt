@@ -7,6 +7,7 @@ use mathlib.Core.List.{List}
 use native.Mathlib.Omega.{arith}
 use native.Mathlib.Decide.{decLe, ℕ-discrete}
 use native.Mathlib.Nat.{lt-of-le-of-lt, div-le-self}
+use lib.Bits.{bitOr}
 use lib.ListN.{getD}
 use lib.Dec.{leb, eqb}
 use borrow.Author.Tests.{le-leb, leb-true, eq-eqb, ne-eqb, eqb-true}
@@ -16,7 +17,7 @@ use Rattle.answers.specs.declared.Answer.the-variants.{Accepted, DoesNotFit}
 use Rattle.records.specs.declared.Record.{Record}
 use Rattle.records.specs.Marks.{bit, bitAt, recorded, unmarked, soundOf, checkOf, Sound}
 use Rattle.records.specs.Parts.{Blank}
-use Rattle.records.proofs.Bits.{bit-shift, bit-zero, bit-past, some-bit}
+use Rattle.records.proofs.Bits.{bit-shift, bit-zero, bit-past, bit-or, some-bit}
 use Rattle.records.proofs.Ring.{rec-in}
 
 -- a word with no bit from s on, as the shift finds it
@@ -34,6 +35,13 @@ marked-word w s h f k =
     room : (i : ℕ) → s ≤ i → bit w i ≡ 1 → Dec (64 ≤ i) → ⊥
     room i a e (yes p) = absurd (omega (arith, e, bit-past w 64 i h p))
     room i a e (no p) = absurd (omega (arith, e, k i a (omega arith)))
+
+-- words joined by `|` have no bit exactly where each has none
+pub blank-or : (v w s : ℕ) → Blank v s → Blank w s → Blank (bitOr v w) s
+blank-or v w s a b i l h = bit-or v w i ∙ omega (arith, a i l h, b i l h)
+
+pub or-blank : (v w s : ℕ) → Blank (bitOr v w) s → Blank v s × Blank w s
+or-blank v w s a = (λ i l h. omega (arith, a i l h, bit-or v w i), λ i l h. omega (arith, a i l h, bit-or v w i))
 
 -- the word of `at` has no bit from its place on where no number from `at` on up to its end is marked
 module _ (ws : List ℕ) (at : ℕ) where

@@ -1,7 +1,11 @@
--- The contracts of `new`, `check`, `test`, `take`, `next_run`, `check_of` and `test_of` are firm: each is an equation of the answer, and `take`'s of the record too.
+-- The contracts of `new`, `check`, `test`, `take`, `next_run`, `check_of`, `test_of` and `take_of` are firm: each is an equation of the answer, `take`'s of the record too, and `take_of`'s of the top and the lent words.
 -- Assumes nothing.
 use mathlib.Core.Path.{sym, _∙_}
-use Rattle.answers.specs.Firm.{FirmAnswer}
+use mathlib.Core.List.{List}
+use Prim.Native.Nat.{ℕ}
+use denote.Ref.{now}
+use Rattle.answers.specs.Firm.{Firm, FirmAnswer}
+use Rattle.records.specs.declared.Topped.{Topped}
 use Rattle.records.proofs.Record.new.Kinds as new
 use Rattle.records.proofs.Record.new.Reads as making
 use Rattle.records.proofs.Record.check.Kinds as check
@@ -16,6 +20,8 @@ use Rattle.records.proofs.check_of.Kinds as check-of
 use Rattle.records.proofs.check_of.Reads as checking-of
 use Rattle.records.proofs.test_of.Kinds as test-of
 use Rattle.records.proofs.test_of.Reads as testing-of
+use Rattle.records.proofs.take_of.Kinds as take-of
+use Rattle.records.proofs.take_of.Reads as taking-of
 
 pub new-firm : FirmAnswer 0 new.ps new.r making.Asked making.Post
 new-firm = record { asks-nothing = λ κs a. tt; one-outcome = λ κs a x y s t p q. p ∙ sym q }
@@ -37,3 +43,9 @@ check-of-firm = record { asks-nothing = λ κs a. tt; one-outcome = λ κs a x y
 
 pub test-of-firm : FirmAnswer 1 test-of.ps test-of.r testing-of.Asked testing-of.Post
 test-of-firm = record { asks-nothing = λ κs a. tt; one-outcome = λ κs a x y s t p q. p ∙ sym q }
+
+pub take-of-firm : Firm 1 take-of.ps take-of.r taking-of.Asked taking-of.Post (λ κs. Topped × List ℕ) (λ κs x s. (x, now (s .0)))
+take-of-firm = record {
+  asks-nothing = λ κs a. tt;
+  one-outcome = λ κs a x y s t p q. λ i. let e = (p ∙ sym q) i in (record { answer = e .answer; top = e .«record» .top }, e .«record» .words);
+}

@@ -9,6 +9,7 @@ use Rattle.answers.specs.declared.Answer.{Answer}
 use Rattle.answers.specs.declared.Answer.the-variants.{Accepted, BelowRecord, InRecord, NoSuchNumber, DoesNotFit}
 use Rattle.records.specs.declared.Record.{Record}
 use Rattle.records.specs.declared.Taken.{Taken}
+use Rattle.records.specs.declared.Topped.{Topped}
 use Rattle.records.specs.Marks.{asBit, recorded, testOf, soundOf, Sound}
 
 -- the word of k bits whose bit i is set exactly where b i holds
@@ -45,6 +46,10 @@ takenOf R n =
     ∣ ltb (n + 8192) (R .top) ⇒ left R BelowRecord
     ∣ recorded R n ⇒ left R InRecord
     ∣ record { answer = Accepted; «record» = withMark R n }
+
+-- the answer and the record after it, where the words were lent and only their top is told
+abbrev pub takenIn : Topped → List ℕ → Taken
+takenIn t ws = record { answer = t .answer; «record» = record { words = ws; top = t .top } }
 
 -- what holds of an acceptance that leaves the record S
 pub record Accepts (R : Record) (n : ℕ) (S : Record) : Type 0 where

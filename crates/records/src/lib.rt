@@ -3,7 +3,7 @@ ghost use mathlib.Core.Path.{_≡_};
 ghost use Prim.Native.Nat.{_+_, _*_, _≤_, _<_, _^_};
 ghost use Rattle.records.specs.Marks.{bitAt, recorded, noneOf, Clean, checkOf, testOf};
 ghost use Rattle.records.specs.Runs.{nextRun};
-ghost use Rattle.records.specs.Ring.{takenOf};
+ghost use Rattle.records.specs.Ring.{takenOf, takenIn};
 ghost use Rattle.records.specs.Parts.{joined, Whole, Kept, Put, Blank, Cleared, Slid, Marked, Down, Decides};
 use answers::Answer;
 
@@ -24,6 +24,12 @@ pub enum Run {
 pub struct Taken {
     pub answer: Answer,
     pub record: Record,
+}
+
+// The same where the words are lent: the answer, and the top after it.
+pub struct Topped {
+    pub answer: Answer,
+    pub top: u64,
 }
 
 // The largest packet number: 2^62-1.
@@ -86,18 +92,17 @@ fn down(words: &[u64; 128], at: u64, bottom: u64, ones: bool) -> u64
     low
 }
 
-// Whether the words from `from` on have no bit.
+// Whether the words from `from` on have no bit. It does not stop at the first one that has, so that several words are looked at in one step.
 fn zeros(words: &[u64; 128], from: usize) -> bool
     ensures { λ r. ⌜ Decides (Clean (joined (now (words .entry)) (64 * from))) r ⌝ }
 {
+    let mut all = 0;
     let mut k = from;
     while k < 128 {
-        if !blank(words[k], 0) {
-            return false;
-        }
+        all |= words[k];
         k += 1;
     }
-    true
+    blank(all, 0)
 }
 
 // Whether no number below 0 is marked: while the largest is below 8,191 the slots above it are theirs, the rest of a word and whole words.
@@ -198,6 +203,36 @@ fn mark(words: &mut [u64; 128], top: u64, n: u64) -> u64
     next
 }
 
+// 128 words of 64 bits, as every value of the type is: a fact for the proof of what is lent, and no code.
+fn whole(words: [u64; 128])
+    ensures { λ _. ⌜ Whole words ⌝ }
+{}
+
+// Records a number that comes in words that are lent: 120, 111, 106 and 107 leave them and the top as they were.
+pub fn take_of(words: &mut [u64; 128], top: u64, n: u64) -> Topped
+    ensures { λ r. ⌜ takenIn r (now (words .exit)) ≡ takenOf (joined (now (words .entry)) top) n ⌝ }
+{
+    let Answer::Accepted = check_of(words, top) else {
+        return Topped {
+            answer: Answer::DoesNotFit,
+            top,
+        };
+    };
+    if MOST < n {
+        return Topped {
+            answer: Answer::NoSuchNumber,
+            top,
+        };
+    }
+    let answer = test_of(words, top, n);
+    let Answer::Accepted = answer else {
+        return Topped { answer, top };
+    };
+    whole(*words);
+    let next = mark(words, top, n);
+    Topped { answer, top: next }
+}
+
 impl Record {
     // The record of a space of which nothing came.
     pub fn new() -> Self
@@ -228,26 +263,9 @@ impl Record {
         ensures { λ r. ⌜ r ≡ takenOf self n ⌝ }
     {
         let top = self.top;
-        let Answer::Accepted = check_of(&self.words, top) else {
-            return Taken {
-                answer: Answer::DoesNotFit,
-                record: self,
-            };
-        };
-        if MOST < n {
-            return Taken {
-                answer: Answer::NoSuchNumber,
-                record: self,
-            };
-        }
-        let answer = test_of(&self.words, top, n);
-        let Answer::Accepted = answer else {
-            return Taken {
-                answer,
-                record: self,
-            };
-        };
-        self.top = mark(&mut self.words, top, n);
+        let told = take_of(&mut self.words, top, n);
+        self.top = told.top;
+        let answer = told.answer;
         Taken {
             answer,
             record: self,

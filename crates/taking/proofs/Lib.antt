@@ -1,4 +1,3 @@
 pub mod Shared
-pub mod Order
 pub mod Passed
 pub mod Unique

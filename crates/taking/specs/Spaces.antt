@@ -1,12 +1,18 @@
 -- The records of the three spaces: Initial, Handshake, and one for 0-RTT with 1-RTT.
 use Prim.Native.Nat.{ℕ}
 use mathlib.Core.Bool.{Bool, _&&_}
+use mathlib.Core.List.{List}
 use Rattle.records.specs.declared.Record.{Record}
 use Rattle.records.specs.Marks.{soundOf}
 use Rattle.records.specs.Ring.{takenOf}
+use Rattle.records.specs.Parts.{joined}
 use Rattle.streams.specs.declared.Space.{Space}
 use Rattle.streams.specs.declared.Space.the-variants.{Initial, Handshake, Application}
 use Rattle.taking.specs.declared.Records.{Records}
+
+-- the three records by their words and tops, which the code is lent apart
+abbrev pub ofParts : List ℕ → ℕ → List ℕ → ℕ → List ℕ → ℕ → Records
+ofParts us i vs h ws a = record { initial = joined us i; handshake = joined vs h; application = joined ws a }
 
 abbrev pub recordOf : Records → Space → Record
 recordOf rs Initial = rs .initial

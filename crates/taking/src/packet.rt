@@ -2,7 +2,7 @@
 ghost use mathlib.Core.Path.{_≡_};
 ghost use Rattle.records.specs.Parts.{joined};
 ghost use Rattle.streams.specs.Frames.{spaceOf};
-ghost use Rattle.taking.specs.Spaces.{recordsFit, recordedOf};
+ghost use Rattle.taking.specs.Spaces.{ofParts, recordOf, recordsFit, recordedOf};
 ghost use Rattle.taking.specs.Begin.{leftOf, closesOf, numberedOf, inSpaceOf, beginOf};
 ghost use Rattle.taking.specs.Finish.{finishOf};
 use crate::Begun;
@@ -97,21 +97,49 @@ fn in_space(c: Conn, words: &[u64; 128], top: u64, kind: Kind, first: u8, s: &[u
     }
 }
 
-// Whether all three records can be.
-fn fit(records: Records) -> bool
-    ensures { λ r. ⌜ r ≡ recordsFit records ⌝ }
+// Whether all three records can be. They are lent in their parts, since all three by value are a copy of 3 KB.
+fn fit<'a>(
+    initial: &'a [u64; 128],
+    initial_top: u64,
+    handshake: &'a [u64; 128],
+    handshake_top: u64,
+    application: &'a [u64; 128],
+    application_top: u64,
+) -> bool
+    ensures { λ r. ⌜ r ≡ recordsFit (ofParts (now (initial .entry)) «initial_top» (now (handshake .entry)) «handshake_top» (now (application .entry)) «application_top») ⌝ }
 {
-    let Answer::Accepted = records::check_of(&records.initial.words, records.initial.top) else {
+    let Answer::Accepted = records::check_of(initial, initial_top) else {
         return false;
     };
-    let Answer::Accepted = records::check_of(&records.handshake.words, records.handshake.top) else {
+    let Answer::Accepted = records::check_of(handshake, handshake_top) else {
         return false;
     };
-    let Answer::Accepted = records::check_of(&records.application.words, records.application.top)
-    else {
+    let Answer::Accepted = records::check_of(application, application_top) else {
         return false;
     };
     true
+}
+
+// A packet of a kind, with the record of its space; 0-RTT and 1-RTT share one.
+fn by_kind<'a>(
+    c: Conn,
+    initial: &'a [u64; 128],
+    initial_top: u64,
+    handshake: &'a [u64; 128],
+    handshake_top: u64,
+    application: &'a [u64; 128],
+    application_top: u64,
+    kind: Kind,
+    first: u8,
+    s: &[u8],
+) -> Begun
+    ensures { λ r. ⌜ r ≡ inSpaceOf c (recordOf (ofParts (now (initial .entry)) «initial_top» (now (handshake .entry)) «handshake_top» (now (application .entry)) «application_top») (spaceOf kind)) kind first (now (s .entry)) ⌝ }
+{
+    match kind {
+        Kind::Initial => in_space(c, initial, initial_top, kind, first, s),
+        Kind::Handshake => in_space(c, handshake, handshake_top, kind, first, s),
+        _ => in_space(c, application, application_top, kind, first, s),
+    }
 }
 
 // A packet up to its frames; `whole` says whether the table fits.
@@ -121,7 +149,14 @@ pub fn begin(c: Conn, records: Records, whole: bool, first: u8, s: &[u8]) -> Beg
     if !whole {
         return left(c, Answer::DoesNotFit, s.len());
     }
-    if !fit(records) {
+    if !fit(
+        &records.initial.words,
+        records.initial.top,
+        &records.handshake.words,
+        records.handshake.top,
+        &records.application.words,
+        records.application.top,
+    ) {
         return left(c, Answer::DoesNotFit, s.len());
     }
     let mark = c.mark;
@@ -131,70 +166,42 @@ pub fn begin(c: Conn, records: Records, whole: bool, first: u8, s: &[u8]) -> Beg
     let Told::Carries { kind } = head::told(first) else {
         return left(c, Answer::NoPacket, s.len());
     };
-    match kind {
-        Kind::Initial => in_space(
-            c,
-            &records.initial.words,
-            records.initial.top,
-            kind,
-            first,
-            s,
-        ),
-        Kind::Handshake => in_space(
-            c,
-            &records.handshake.words,
-            records.handshake.top,
-            kind,
-            first,
-            s,
-        ),
-        _ => in_space(
-            c,
-            &records.application.words,
-            records.application.top,
-            kind,
-            first,
-            s,
-        ),
-    }
+    by_kind(
+        c,
+        &records.initial.words,
+        records.initial.top,
+        &records.handshake.words,
+        records.handshake.top,
+        &records.application.words,
+        records.application.top,
+        kind,
+        first,
+        s,
+    )
 }
 
 // The records with a number more in the space of a packet.
-fn recorded(records: Records, kind: Kind, number: u64) -> Records
+fn recorded(mut records: Records, kind: Kind, number: u64) -> Records
     ensures { λ r. ⌜ r ≡ recordedOf records (spaceOf kind) number ⌝ }
 {
-    let initial = records.initial;
-    let handshake = records.handshake;
-    let application = records.application;
     match kind {
         Kind::Initial => {
-            let taken = initial.take(number);
-            let after = taken.record;
-            Records {
-                initial: after,
-                handshake,
-                application,
-            }
+            let top = records.initial.top;
+            let told = records::take_of(&mut records.initial.words, top, number);
+            records.initial.top = told.top;
         },
         Kind::Handshake => {
-            let taken = handshake.take(number);
-            let after = taken.record;
-            Records {
-                initial,
-                handshake: after,
-                application,
-            }
+            let top = records.handshake.top;
+            let told = records::take_of(&mut records.handshake.words, top, number);
+            records.handshake.top = told.top;
         },
         _ => {
-            let taken = application.take(number);
-            let after = taken.record;
-            Records {
-                initial,
-                handshake,
-                application: after,
-            }
+            let top = records.application.top;
+            let told = records::take_of(&mut records.application.words, top, number);
+            records.application.top = told.top;
         },
     }
+    records
 }
 
 // A packet after its frames: its number is recorded if none was refused.

@@ -1,12 +1,11 @@
--- `taking::packet::begin` meets its contract: the tests are those of the definition, in its order, and the match takes the record of the packet's space.
+-- `taking::packet::begin` meets its contract: the tests are those of the definition, in its order.
 -- Assumes nothing.
 use borrow.Author.Needs.{needs}
-use mathlib.Core.Path.{sym, _∙_}
-use denote.Ref.{now}
+use mathlib.Core.Path.{_≡_, sym, _∙_}
+use mathlib.Core.Bool.{true, false}
 use borrow.Author.Tests.{not-true, not-false}
+use Rattle.taking.specs.Spaces.{recordsFit}
 use Rattle.taking.specs.Begin.{beginOf}
-use Rattle.taking.proofs.Shared.{shared}
-use Rattle.taking.proofs.Order.{goes-on}
 use Rattle.taking.proofs.packet.begin.Statement.{statement}
 use Rattle.taking.proofs.packet.begin.Tie as tie
 
@@ -18,50 +17,39 @@ returns-2 : tie.Need-returns-2
 unfolding beginOf
 returns-2 c =
     let f = c .before .before in
-    rw (not-false (f .before .before .before .args .whole) (f .before .if1 .left), sym (f .fit .ensures) ∙ not-true _ (c .before .if2 .taken)) (c .left2 .ensures)
+    let a = f .before .before .before .before .before .before .before .args in
+    let unfit : recordsFit (a .t2) ≡ false = not-true _ (rw (f .fit .ensures) at (c .before .if2 .taken)) in
+    rw (not-false (a .whole) (f .before .before .before .before .before .if1 .left), unfit) (c .left2 .ensures)
 
 returns-3 : tie.Need-returns-3
 unfolding beginOf
 returns-3 c =
     let o = c .before .before in
-    rw (not-false (o .before .before .before .before .before .args .whole) (o .before .before .before .if1 .left), sym (o .before .before .fit .ensures) ∙ not-false _ (o .before .if2 .left), sym (o .is-open .ensures) ∙ not-true _ (c .before .if3 .taken)) (c .left3 .ensures)
+    let f = o .before .before in
+    let a = f .before .before .before .before .before .before .before .args in
+    let fits : recordsFit (a .t2) ≡ true = not-false _ (rw (f .fit .ensures) at (o .before .if2 .left)) in
+    rw (not-false (a .whole) (f .before .before .before .before .before .if1 .left), fits, sym (o .is-open .ensures) ∙ not-true _ (c .before .if3 .taken)) (c .left3 .ensures)
 
 returns-4 : tie.Need-returns-4
 unfolding beginOf
 returns-4 c =
     let t = c .before .before .before in
     let o = t .before .before in
-    rw (not-false (o .before .before .before .before .before .args .whole) (o .before .before .before .if1 .left), sym (o .before .before .fit .ensures) ∙ not-false _ (o .before .if2 .left), sym (o .is-open .ensures) ∙ not-false _ (t .before .if3 .left), sym (t .told .ensures) ∙ c .before .enum-told .given .1) (c .left4 .ensures)
+    let f = o .before .before in
+    let a = f .before .before .before .before .before .before .before .args in
+    let fits : recordsFit (a .t2) ≡ true = not-false _ (rw (f .fit .ensures) at (o .before .if2 .left)) in
+    rw (not-false (a .whole) (f .before .before .before .before .before .if1 .left), fits, sym (o .is-open .ensures) ∙ not-false _ (t .before .if3 .left), sym (t .told .ensures) ∙ c .before .enum-told .given .1) (c .left4 .ensures)
 
 returns-5 : tie.Need-returns-5
+unfolding beginOf
 returns-5 c =
-    let k = c .before .before .before .before .before in
-    let t = k .before .before .before in
+    let k = c .before .before .before .before .before .before in
+    let t = k .before .before in
     let o = t .before .before in
-    let a = o .before .before .before .before .before .args in
-    goes-on (a .c) (a .t2) (a .whole) (a .first) (now (a .s)) (not-false (a .whole) (o .before .before .before .if1 .left)) (sym (o .before .before .fit .ensures) ∙ not-false _ (o .before .if2 .left)) (sym (o .is-open .ensures) ∙ not-false _ (t .before .if3 .left))
-    (k .before .kind .given .0 .0) (sym (t .told .ensures) ∙ k .before .kind .given .1) (a .t2 .initial) (rw (c .before .before .before .enum-told2 .given .1))
-    (c .in-space .result) (c .in-space .ensures)
-
-returns-6 : tie.Need-returns-6
-returns-6 c =
-    let k = c .before .before .before .before .before in
-    let t = k .before .before .before in
-    let o = t .before .before in
-    let a = o .before .before .before .before .before .args in
-    goes-on (a .c) (a .t2) (a .whole) (a .first) (now (a .s)) (not-false (a .whole) (o .before .before .before .if1 .left)) (sym (o .before .before .fit .ensures) ∙ not-false _ (o .before .if2 .left)) (sym (o .is-open .ensures) ∙ not-false _ (t .before .if3 .left))
-    (k .before .kind .given .0 .0) (sym (t .told .ensures) ∙ k .before .kind .given .1) (a .t2 .handshake) (rw (c .before .before .before .enum-told3 .given .1))
-    (c .in-space2 .result) (c .in-space2 .ensures)
-
-returns-7 : tie.Need-returns-7
-returns-7 c =
-    let k = c .before .before .before .before in
-    let t = k .before .before .before in
-    let o = t .before .before in
-    let a = o .before .before .before .before .before .args in
-    goes-on (a .c) (a .t2) (a .whole) (a .first) (now (a .s)) (not-false (a .whole) (o .before .before .before .if1 .left)) (sym (o .before .before .fit .ensures) ∙ not-false _ (o .before .if2 .left)) (sym (o .is-open .ensures) ∙ not-false _ (t .before .if3 .left))
-    (k .before .kind .given .0 .0) (sym (t .told .ensures) ∙ k .before .kind .given .1) (a .t2 .application) (rw (shared (k .before .kind .given .0 .0) (c .before .before .before .match2 .keys3)))
-    (c .in-space3 .result) (c .in-space3 .ensures)
+    let f = o .before .before in
+    let a = f .before .before .before .before .before .before .before .args in
+    let fits : recordsFit (a .t2) ≡ true = not-false _ (rw (f .fit .ensures) at (o .before .if2 .left)) in
+    rw (not-false (a .whole) (f .before .before .before .before .before .if1 .left), fits, sym (o .is-open .ensures) ∙ not-false _ (t .before .if3 .left), sym (t .told .ensures) ∙ k .kind .given .1) (c .by-kind .ensures)
 
 pub begin-spec : {M : Type 1} → statement M
 begin-spec =
@@ -80,11 +68,5 @@ begin-spec =
     (λ c. search needs)
     (λ c κs. search needs)
     returns-4
-    (λ c. search needs)
     (λ c κs. search needs)
-    (λ c. search needs)
-    (λ c κs. search needs)
-    (λ c κs. search needs)
-    returns-5
-    returns-6
-    returns-7)
+    returns-5)
