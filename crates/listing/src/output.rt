@@ -1,7 +1,6 @@
-// What the listing writes: rows, gathered in a buffer that is written when it is full, and single lines.
+// What the listing writes: texts, what is gathered in a buffer, and the last line.
 use rows::taken;
 use streams::Mark;
-use taking::TookFrame;
 use wire::Wrote;
 
 pub fn text(t: &[u8]) {
@@ -13,18 +12,6 @@ pub fn flush(buf: &[u8], used: usize) {
     if used <= buf.len() {
         text(&buf[..used]);
     }
-}
-
-// Adds a frame's row to the buffer, after writing what is gathered if there is no room left for it, and answers how much is gathered then.
-pub fn add(buf: &mut [u8], used: usize, place: usize, took: TookFrame) -> usize {
-    let Wrote::To { next } = taken::taken_row(buf, used, place, took) else {
-        flush(buf, used);
-        let Wrote::To { next } = taken::taken_row(buf, 0, place, took) else {
-            return 0;
-        };
-        return next;
-    };
-    next
 }
 
 // The last line: how the connection stands.

@@ -1,17 +1,16 @@
--- `walk::walk` is safe and ends: its turns are counted up to the length of the payload, and the buffer keeps its length.
+-- `walk::walk` is safe and ends: its turns are counted down from the length of the payload, and the buffer keeps its length.
 -- Assumes nothing.
 use mathlib.Core.Path.{_≡_}
-use Prim.Native.Nat.{_≤_, _-_}
 use borrow.Author.Needs.{needs}
 use lib.ListN.{length}
 use Rattle.listing.proofs.walk.walk.Statement.{statement}
 use Rattle.listing.proofs.walk.walk.Tie as tie
 
 abbrev Inv-loop : tie.InvT-loop
-Inv-loop s buf₀ c₀ t₀ used₀ at₀ counter₀ end buf c t used at counter = (counter ≤ end) × (length buf ≡ length buf₀)
+Inv-loop s buf₀ now₀ left₀ buf now left = length buf ≡ length buf₀
 
 abbrev μ-loop : tie.MeasureT-loop
-μ-loop s buf₀ c₀ t₀ used₀ at₀ counter₀ end buf c t used at counter = end - counter
+μ-loop s buf₀ now₀ left₀ buf now left = left
 
 pub walk-spec : {M : Type 1} → statement M
 walk-spec =
@@ -22,10 +21,10 @@ walk-spec =
     (λ c. search needs)
     (λ c κs. search needs)
     (λ c κs. search needs)
-    (λ c κs. search needs)
     (λ c. search needs)
     (λ c. search needs)
     (λ c. search needs)
-    (λ c κs. search needs)
+    (λ c. search needs)
+    (λ c. search needs)
     (λ c. search needs)
     (λ c. search needs))

@@ -1,0 +1,3 @@
+pub mod Filling
+pub mod Example
+pub mod Unique

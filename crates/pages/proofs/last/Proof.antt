@@ -1,0 +1,17 @@
+-- `pages::last` meets its contract: the test is the definition's.
+-- Assumes nothing.
+use borrow.Author.Tests.{eq-eqb, ne-eqb}
+use Rattle.pages.specs.Pages.{lastOf}
+use Rattle.pages.proofs.last.Statement.{statement}
+use Rattle.pages.proofs.last.Tie as tie
+
+returns : tie.Need-returns
+unfolding lastOf
+returns c = rw (eq-eqb _ _ (c .if1 .taken))
+
+returns-2 : tie.Need-returns-2
+unfolding lastOf
+returns-2 c = rw (ne-eqb _ _ (c .if1 .left))
+
+pub last-spec : {M : Type 1} → statement M
+last-spec = tie.close (tie.spec returns returns-2)

@@ -1,0 +1,66 @@
+-- The listing of a payload, document 01, "Bench examples": frame after frame into the small connection, up to the one that closes it, as many rows at a time as an output holds.
+use Prim.Native.Nat.{ℕ, zero, suc}
+use mathlib.Core.Bool.{true, false, _||_}
+use mathlib.Core.List.{List}
+use lib.ListN.{length, replicate}
+use lib.Dec.{leb, eqb}
+use Rattle.answers.specs.Choice.{_⇒_∣_}
+use Rattle.answers.specs.declared.Answer.the-variants.{ProtocolViolation}
+use Rattle.wire.specs.declared.Wrote.{Wrote}
+use Rattle.wire.specs.declared.Wrote.the-variants.{To, Refused}
+use Rattle.frames.specs.declared.Kind.the-variants.{OneRtt}
+use Rattle.streams.specs.Entry.{fresh}
+use Rattle.streams.specs.declared.Mark.{Mark}
+use Rattle.streams.specs.declared.Mark.the-variants.{Code}
+use Rattle.held.specs.Held.{heldOpenedOf, heldFrameOf}
+use Rattle.held.specs.declared.HeldOpened.{HeldOpened}
+use Rattle.held.specs.declared.HeldFrame.{HeldFrame}
+use Rattle.text.specs.Text.{wroteTextOf, outTextOf}
+use Rattle.rows.specs.Listing.{takenRowOf, afterOf}
+use Rattle.pages.specs.declared.Page.{Page}
+
+-- "The small connection: counts 4 and 4, stream credits 16, connection credit 40"
+unfoldable pub smallOf : HeldOpened
+smallOf = heldOpenedOf (replicate 192 (fresh 0)) 16 16 16 4 4 40
+
+-- the frame that is next, taken
+abbrev pub takenFrom : Page → List ℕ → HeldFrame
+takenFrom p s = heldFrameOf (p .conn) (p .table) s (p .at) OneRtt
+
+-- a page whose next row waits for room: nothing was taken
+abbrev pub waiting : Page → Page
+waiting p = record { conn = p .conn; table = p .table; at = p .at; used = p .used; full = true }
+
+-- a page with the row of a frame that was taken, by what writing the row answered
+unfoldable pub withRow : Page → List ℕ → HeldFrame → Wrote → Page
+withRow p s held (To next) = record { conn = held .took .conn; table = held .table; at = afterOf (held .took) (length s); used = next; full = false }
+withRow p s held (Refused answer) = waiting p
+
+-- a page with one row more, in an output of n bytes
+unfoldable pub oneMoreOf : Page → List ℕ → ℕ → Page
+oneMoreOf p s n = withRow p s (takenFrom p s) (wroteTextOf n (p .used) (takenRowOf (p .at) (takenFrom p s .took)))
+
+-- and the output then
+unfoldable pub oneMoreOut : Page → List ℕ → List ℕ → List ℕ
+oneMoreOut p s out = outTextOf out (p .used) (takenRowOf (p .at) (takenFrom p s .took))
+
+-- k rows more, or as many as there are frames and room for
+unfoldable pub pageFrom : ℕ → Page → List ℕ → List ℕ → Page × List ℕ
+pageFrom zero p s out = (p, out)
+pageFrom (suc k) p s out =
+    p .full || leb (length s) (p .at) ⇒ (p, out)
+    ∣ pageFrom k (oneMoreOf p s (length out)) s (oneMoreOut p s out)
+
+-- an empty page that goes on where another stopped
+abbrev pub turned : Page → Page
+turned p = record { conn = p .conn; table = p .table; at = p .at; used = 0; full = false }
+
+-- a page behind another: a payload has no more frames than bytes
+unfoldable pub pageOf : Page → List ℕ → List ℕ → Page × List ℕ
+pageOf p s out = pageFrom (length s) (turned p) s out
+
+-- how the connection stands in the end: a payload of n bytes without frames breaks the protocol
+unfoldable pub lastOf : ℕ → Mark → Mark
+lastOf n mark =
+    eqb n 0 ⇒ Code ProtocolViolation 0
+    ∣ mark

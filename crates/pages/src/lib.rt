@@ -1,0 +1,92 @@
+// The listing of a payload (document 01, "Bench examples"), as many rows at a time as an output holds.
+ghost use mathlib.Core.Path.{_≡_};
+ghost use lib.ListN.{length};
+ghost use Rattle.pages.specs.Pages.{smallOf, oneMoreOf, oneMoreOut, pageOf, lastOf};
+use answers::Answer;
+use frames::Kind;
+use held::HeldOpened;
+use rows::taken;
+use streams::Conn;
+use streams::Entry;
+use streams::Mark;
+use wire::Wrote;
+
+// How far a listing is: the connection and its table, the place of the next frame, how much of the output is used, and
+// whether the next row waits for room.
+pub struct Page {
+    pub conn: Conn,
+    pub table: [Entry; 192],
+    pub at: usize,
+    pub used: usize,
+    pub full: bool,
+}
+
+// The small connection, opened.
+pub fn small() -> HeldOpened
+    ensures { λ r. ⌜ r ≡ smallOf ⌝ }
+{
+    held::open(held::room(), 16, 16, 16, 4, 4, 40)
+}
+
+// One row more, unless there is no room for it.
+fn one_more(p: Page, s: &[u8], out: &mut [u8]) -> Page
+    ensures { λ r. ⌜ (r ≡ oneMoreOf p (now (s .entry)) (length (now (out .entry)))) × (now (out .exit) ≡ oneMoreOut p (now (s .entry)) (now (out .entry))) ⌝ }
+{
+    let conn = p.conn;
+    let table = p.table;
+    let held = held::take_frame(conn, table, s, p.at, Kind::OneRtt);
+    let took = held.took;
+    let Wrote::To { next } = taken::taken_row(out, p.used, p.at, took) else {
+        return Page {
+            conn,
+            table,
+            at: p.at,
+            used: p.used,
+            full: true,
+        };
+    };
+    let left = took.conn;
+    let entries = held.table;
+    Page {
+        conn: left,
+        table: entries,
+        at: taken::after(took, s.len()),
+        used: next,
+        full: false,
+    }
+}
+
+// The page behind another: rows up to the last frame, or as many as there is room for.
+pub fn fill(p: Page, s: &[u8], out: &mut [u8]) -> Page
+    ensures { λ r. ⌜ (r, now (out .exit)) ≡ pageOf p (now (s .entry)) (now (out .entry)) ⌝ }
+{
+    let mut now = p;
+    now.used = 0;
+    now.full = false;
+    let mut left = s.len();
+    while 0 < left {
+        if now.full {
+            return now;
+        }
+        if s.len() <= now.at {
+            return now;
+        }
+        let next = one_more(now, s, out);
+        now = next;
+        left -= 1;
+    }
+    now
+}
+
+// How the connection stands in the end, after a payload of n bytes: one without frames breaks the protocol.
+pub fn last(n: usize, mark: Mark) -> Mark
+    ensures { λ r. ⌜ r ≡ lastOf n mark ⌝ }
+{
+    if n == 0 {
+        return Mark::Code {
+            answer: Answer::ProtocolViolation,
+            ty: 0,
+        };
+    }
+    mark
+}
