@@ -23,13 +23,13 @@ use Rattle.streams.specs.declared.Conn.{Conn}
 use Rattle.streams.specs.Conn.{isOpen}
 use Rattle.streams.specs.Frames.{spaceOf, accepts}
 use Rattle.accounts.proofs.Tests.{not-both}
-use Rattle.taking.specs.First.{toldOf, sizeIn, reservedOf}
-use Rattle.taking.specs.Spaces.{recordOf, recordsFit}
-use Rattle.taking.specs.Begin.{leftOf, closesOf, numberedOf, withRecovered, inSpaceOf, withKind, beginOf}
-use Rattle.taking.specs.declared.Begun.{Begun}
-use Rattle.taking.specs.declared.Records.{Records}
-use Rattle.taking.specs.declared.Told.{Told}
-use Rattle.taking.specs.declared.Told.the-variants as Told'
+use Rattle.packets.specs.First.{toldOf, sizeIn, reservedOf}
+use Rattle.packets.specs.Spaces.{recordOf, recordsFit}
+use Rattle.packets.specs.Begin.{leftOf, closesOf, numberedOf, withRecovered, inSpaceOf, withKind, beginOf}
+use Rattle.packets.specs.declared.Begun.{Begun}
+use Rattle.packets.specs.declared.Records.{Records}
+use Rattle.packets.specs.declared.Told.{Told}
+use Rattle.packets.specs.declared.Told.the-variants as Told'
 
 -- an answer that neither accepts nor closes; and it is 120 only where something does not fit
 pub record Quiet (whole : Bool) (answer : Answer) : Type 0 where

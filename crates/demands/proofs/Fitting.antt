@@ -41,17 +41,17 @@ use Rattle.streams.specs.Fits.{fits}
 use Rattle.accounts.specs.History.{Opening}
 use Rattle.accounts.proofs.Tests.{not-both, accepts-true}
 use Rattle.taking.specs.declared.Asked.{Asked}
-use Rattle.taking.specs.declared.Begun.{Begun}
-use Rattle.taking.specs.declared.Records.{Records}
-use Rattle.taking.specs.declared.Stopped.{Stopped}
-use Rattle.taking.specs.declared.Took.{Took}
+use Rattle.packets.specs.declared.Begun.{Begun}
+use Rattle.packets.specs.declared.Records.{Records}
+use Rattle.packets.specs.declared.Stopped.{Stopped}
+use Rattle.packets.specs.declared.Took.{Took}
 use Rattle.taking.specs.declared.TookFrame.{TookFrame}
 use Rattle.taking.specs.declared.Gate.{Gate}
 use Rattle.taking.specs.declared.Turned.{Turned}
-use Rattle.taking.specs.Spaces.{recordsFit, recordedOf}
+use Rattle.packets.specs.Spaces.{recordsFit, recordedOf}
 use Rattle.taking.specs.Step.{askedOf, askedAt, turnOf}
-use Rattle.taking.specs.Begin as begin
-use Rattle.taking.specs.Finish.{finishOf}
+use Rattle.packets.specs.Begin as begin
+use Rattle.packets.specs.Finish.{finishOf}
 use Rattle.taking.specs.Local.{gateOf, calledWhen, openedNextWhen}
 use Rattle.receive.specs.Table.{raisedStream}
 use Rattle.receive.specs.Walk.{turnAt, steppedAt, stepTable, stopped, walkFrom}

@@ -39,14 +39,14 @@ use Rattle.accounts.specs.Run.{Item, taken, walk, stepped, run}
 use Rattle.accounts.specs.Run.Try.{Packet, Local}
 use Rattle.accounts.proofs.Contracts.{item-judged, raise-stream-same, raise-credit-same, raise-count-same, open-next-same, hand-out-same}
 use Rattle.accounts.proofs.Owned.{length-list, list-at}
-use Rattle.taking.specs.declared.Begun.{Begun}
-use Rattle.taking.specs.declared.Records.{Records}
-use Rattle.taking.specs.declared.Stopped.{Stopped}
+use Rattle.packets.specs.declared.Begun.{Begun}
+use Rattle.packets.specs.declared.Records.{Records}
+use Rattle.packets.specs.declared.Stopped.{Stopped}
 use Rattle.taking.specs.declared.Turned.{Turned}
 use Rattle.taking.specs.Step.{askedOf, askedAt, turnOf}
-use Rattle.taking.specs.Begin.{leftOf, closesOf}
-use Rattle.taking.specs.Finish.{tookAs, finishOf}
-use Rattle.taking.specs.Spaces.{recordedOf}
+use Rattle.packets.specs.Begin.{leftOf, closesOf}
+use Rattle.packets.specs.Finish.{tookAs, finishOf}
+use Rattle.packets.specs.Spaces.{recordedOf}
 use Rattle.taking.specs.Local.{gateOf, calledWhen, openedNextWhen, openingWhen, entriesOf, initialOf}
 use Rattle.receive.specs.Table.{filledTo, openedTable, raisedStream, raisedTable}
 use Rattle.receive.specs.Walk.{turnAt, stopped, walkFrom, walkAll}

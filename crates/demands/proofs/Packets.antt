@@ -7,8 +7,8 @@ use Rattle.records.specs.Marks.{bit, bitAt, recorded, noneOf, testOf, unmarked,
 use Rattle.records.specs.Ring.{wordOf, listOf, slotOf, ringOf, withMark, takenOf}
 use Rattle.streams.specs.Conn.{markedAs}
 use Rattle.streams.specs.Opening.{openedConn}
-use Rattle.taking.specs.First.{toldOf, sizeIn, reservedOf}
-use Rattle.taking.specs.Begin.{leftOf, closesOf, numberedOf, inSpaceOf}
+use Rattle.packets.specs.First.{toldOf, sizeIn, reservedOf}
+use Rattle.packets.specs.Begin.{leftOf, closesOf, numberedOf, inSpaceOf}
 use Rattle.demands.specs.Packets.{Packets}
 
 pub packets : Packets

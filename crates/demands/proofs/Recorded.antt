@@ -28,15 +28,15 @@ use Rattle.streams.specs.Conn.{isOpen}
 use Rattle.streams.specs.Fits.{fits}
 use Rattle.streams.specs.Frames.{spaceOf, accepts}
 use Rattle.accounts.proofs.Tests.{accepts-true}
-use Rattle.taking.specs.declared.Begun.{Begun}
-use Rattle.taking.specs.declared.Records.{Records}
-use Rattle.taking.specs.declared.Stopped.{Stopped}
-use Rattle.taking.specs.declared.Told.{Told}
-use Rattle.taking.specs.declared.Told.the-variants as Told'
-use Rattle.taking.specs.First.{toldOf, sizeIn, reservedOf}
-use Rattle.taking.specs.Spaces.{recordOf, withRecord, recordsFit, recordedOf}
-use Rattle.taking.specs.Begin.{leftOf, closesOf, numberedOf, withRecovered, inSpaceOf, withKind, beginOf}
-use Rattle.taking.specs.Finish.{finishOf}
+use Rattle.packets.specs.declared.Begun.{Begun}
+use Rattle.packets.specs.declared.Records.{Records}
+use Rattle.packets.specs.declared.Stopped.{Stopped}
+use Rattle.packets.specs.declared.Told.{Told}
+use Rattle.packets.specs.declared.Told.the-variants as Told'
+use Rattle.packets.specs.First.{toldOf, sizeIn, reservedOf}
+use Rattle.packets.specs.Spaces.{recordOf, withRecord, recordsFit, recordedOf}
+use Rattle.packets.specs.Begin.{leftOf, closesOf, numberedOf, withRecovered, inSpaceOf, withKind, beginOf}
+use Rattle.packets.specs.Finish.{finishOf}
 use Rattle.receive.specs.Taking.{begunOf, tookOf}
 use Rattle.receive.specs.Walk.{stoppedOf}
 use Rattle.demands.specs.Recorded.{NumberRecorded}

@@ -29,16 +29,16 @@ use Rattle.streams.specs.Frames as local
 use Rattle.streams.specs.Frames.{Call, viewOf, framePlace, ruledOf, accepts, settledOf, judgedOf, callOf, raisedOf, leftOf, calledOf, openedNextOf, handedOutOf}
 use Rattle.streams.specs.Frames.Event.{Got as Heard}
 use Rattle.streams.specs.Fits.{fits}
-use Rattle.taking.specs.declared.Begun.{Begun}
+use Rattle.packets.specs.declared.Begun.{Begun}
 use Rattle.taking.specs.declared.Handed.{Handed}
 use Rattle.taking.specs.declared.Handed.the-variants.{Nothing}
-use Rattle.taking.specs.declared.Records.{Records}
-use Rattle.taking.specs.declared.Stopped.{Stopped}
-use Rattle.taking.specs.declared.Took.{Took}
+use Rattle.packets.specs.declared.Records.{Records}
+use Rattle.packets.specs.declared.Stopped.{Stopped}
+use Rattle.packets.specs.declared.Took.{Took}
 use Rattle.taking.specs.declared.TookFrame.{TookFrame}
 use Rattle.taking.specs.Step.{askedOf, askedAt, turnOf, handedAt}
-use Rattle.taking.specs.Begin as begin
-use Rattle.taking.specs.Finish.{tookAs, finishOf}
+use Rattle.packets.specs.Begin as begin
+use Rattle.packets.specs.Finish.{tookAs, finishOf}
 use Rattle.taking.specs.Local.{calledWhen, openedNextWhen}
 use Rattle.receive.specs.Table.{raisedAt, raisedStream, raisedTable}
 use Rattle.receive.specs.Walk.{turnAt, walkAll}

@@ -17,7 +17,7 @@ use Rattle.accounts.specs.Run.{Item, Try}
 use Rattle.accounts.specs.Run.Item.{Read, Broken}
 use Rattle.accounts.specs.Run.Try.{Packet, Local}
 use Rattle.accounts.specs.Demand3.{history}
-use Rattle.taking.specs.declared.Begun.{Begun}
+use Rattle.packets.specs.declared.Begun.{Begun}
 use Rattle.receive.specs.Taking.{begunOf}
 use Rattle.demands.specs.Hosts.{Host, Act, acted, hosted}
 use Rattle.demands.specs.Hosts.Act.{TakeFrame, TakePacket, RaiseCredit, RaiseStream, RaiseCount, OpenStream, HandOut}

@@ -14,7 +14,7 @@ use Rattle.streams.specs.Opening.{openedConn}
 use Rattle.streams.specs.Frames as local
 use Rattle.streams.specs.Fits.{fits}
 use Rattle.accounts.specs.History.{Opening, State}
-use Rattle.taking.specs.declared.Records.{Records}
+use Rattle.packets.specs.declared.Records.{Records}
 use Rattle.taking.specs.Local.{calledWhen, openedNextWhen, openingWhen}
 use Rattle.receive.specs.Table.{openedTable, raisedStream, raisedTable}
 use Rattle.receive.specs.Taking.{tookFrameOf, frameTable, tookOf, tookTable}

@@ -10,9 +10,9 @@ use Rattle.records.specs.declared.Record.{Record}
 use Rattle.records.specs.Marks.{noneOf}
 use Rattle.records.specs.Ring.{takenOf}
 use Rattle.streams.specs.Opening.{openedConn}
-use Rattle.taking.specs.declared.Told.the-variants.{Carries, NoPacket}
-use Rattle.taking.specs.First.{toldOf, sizeIn, reservedOf}
-use Rattle.taking.specs.Begin.{inSpaceOf}
+use Rattle.packets.specs.declared.Told.the-variants.{Carries, NoPacket}
+use Rattle.packets.specs.First.{toldOf, sizeIn, reservedOf}
+use Rattle.packets.specs.Begin.{inSpaceOf}
 
 -- the record that holds 5 alone
 abbrev pub only5 : Record

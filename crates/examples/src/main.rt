@@ -3,9 +3,9 @@ mod again;
 mod edges;
 mod frame_edges;
 mod headers;
+mod lengths;
 mod marks;
 mod on_wire;
-mod packets;
 mod print;
 mod taken;
 
@@ -19,7 +19,7 @@ fn main() {
     print::text(b"\nthe borders of the packet forms");
     edges::long();
     edges::short();
-    packets::run();
+    lengths::run();
     taken::run();
     marks::jumps();
     marks::acknowledgements();

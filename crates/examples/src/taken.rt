@@ -1,10 +1,10 @@
 // The packets of RFC 9001, A.2, A.3 and A.5, without their protection: the client's Initial, up to its PADDING; the server's,
 // which acknowledges the number 0; and a 1-RTT packet of one PING.
 use crate::print;
+use packets::Records;
 use records::Record;
 use streams::Opened;
 use streams::Space;
-use taking::Records;
 
 // A packet on a new connection, which has sent an Initial or nothing: the answer, and one above the largest numbers after it.
 fn take(records: Records, sent: bool, first: u8, s: &[u8]) {

@@ -28,12 +28,12 @@ use Rattle.receive.specs.Taking.{tookOf, tookTable}
 use Rattle.streams.specs.declared.Conn.{Conn}
 use Rattle.streams.proofs.Conn as TConn
 use Rattle.streams.proofs.Conn.Laws as TConn′
-use Rattle.taking.specs.declared.Records.{Records}
-use Rattle.taking.proofs.Records as TRecords
-use Rattle.taking.proofs.Records.Laws as TRecords′
-use Rattle.taking.specs.declared.Took.{Took}
-use Rattle.taking.proofs.Took as TTook
-use Rattle.taking.proofs.Took.Laws as TTook′
+use Rattle.packets.specs.declared.Records.{Records}
+use Rattle.packets.proofs.Records as TRecords
+use Rattle.packets.proofs.Records.Laws as TRecords′
+use Rattle.packets.specs.declared.Took.{Took}
+use Rattle.packets.proofs.Took as TTook
+use Rattle.packets.proofs.Took.Laws as TTook′
 use Rattle.streams.specs.declared.Entry.{Entry}
 use Rattle.streams.proofs.Entry as TEntry
 use Rattle.receive.proofs.Calls.{post-of}

@@ -5,7 +5,7 @@ use lib.ListN.{length}
 use Rattle.frames.specs.declared.Kind.{Kind}
 use Rattle.streams.specs.declared.Conn.{Conn}
 use Rattle.streams.specs.declared.Entry.{Entry}
-use Rattle.taking.specs.declared.Records.{Records}
+use Rattle.packets.specs.declared.Records.{Records}
 use Rattle.taking.specs.Local.{openingWhen}
 use Rattle.receive.specs.Table.{openedTable, raisedStream, raisedTable}
 use Rattle.receive.specs.Taking.{tookFrameOf, frameTable, tookOf, tookTable}

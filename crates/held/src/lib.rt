@@ -7,13 +7,13 @@ ghost use Rattle.streams.specs.Frames.{Call};
 ghost use Rattle.taking.specs.Local.{calledWhen, openedNextWhen};
 ghost use Rattle.held.specs.Held.{heldOpenedOf, heldFrameOf, heldPacketOf, heldCalledOf};
 use frames::Kind;
+use packets::Records;
+use packets::Took;
 use streams::Called;
 use streams::Conn;
 use streams::Entry;
 use streams::Numbered;
 use streams::Opened;
-use taking::Records;
-use taking::Took;
 use taking::TookFrame;
 
 pub struct HeldOpened {

@@ -1,4 +1,4 @@
--- A call of `taking::packet::begin` as one step of a walk: what its contract asks, and what it gives.
+-- A call of `packets::checks::begin` as one step of a walk: what its contract asks, and what it gives.
 -- Assumes `Given`.
 use mathlib.Core.Path.{_≡_, refl}
 use Prim.Native.Nat.{ℕ, _<_, _^_}
@@ -24,19 +24,19 @@ use denote.Struct.Laws as LL
 use denote.Triple.Spec.{tripleOf}
 use denote.Triple.Clauses.{lasts, Lasts}
 use denote.Triple.Statement.{Contract}
-use Rattle.taking.specs.Begin.{beginOf}
+use Rattle.packets.specs.Begin.{beginOf}
 use Rattle.streams.specs.declared.Conn.{Conn}
 use Rattle.streams.proofs.Conn as TConn
 use Rattle.streams.proofs.Conn.Laws as TConn′
-use Rattle.taking.specs.declared.Records.{Records}
-use Rattle.taking.proofs.Records as TRecords
-use Rattle.taking.proofs.Records.Laws as TRecords′
-use Rattle.taking.specs.declared.Begun.{Begun}
-use Rattle.taking.proofs.Begun as TBegun
-use Rattle.taking.proofs.Begun.Laws as TBegun′
+use Rattle.packets.specs.declared.Records.{Records}
+use Rattle.packets.proofs.Records as TRecords
+use Rattle.packets.proofs.Records.Laws as TRecords′
+use Rattle.packets.specs.declared.Begun.{Begun}
+use Rattle.packets.proofs.Begun as TBegun
+use Rattle.packets.proofs.Begun.Laws as TBegun′
 use Rattle.receive.proofs.Calls.{post-of}
 use Rattle.receive.proofs.Lent.{ref, vals}
-use Rattle.taking.proofs.packet.begin as g
+use Rattle.packets.proofs.checks.begin as g
 
 module _ {M : Type 1} (𝓤 : URA M) (H : Heap 𝓤) (A : Atoms 𝓤) (mem : Memory → SProp 𝓤) (run : Routine → Fun 𝓤) where
   abbrev pub Begin : Contract 𝓤

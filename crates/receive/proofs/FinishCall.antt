@@ -1,4 +1,4 @@
--- A call of `taking::packet::finish` as one step of a walk: what its contract asks, and what it gives.
+-- A call of `packets::checks::finish` as one step of a walk: what its contract asks, and what it gives.
 -- Assumes `Given`.
 use mathlib.Core.Path.{_≡_}
 use mathlib.Core.List.{[], _∷_}
@@ -17,21 +17,21 @@ use denote.Struct.Laws as LL
 use denote.Triple.Spec.{tripleOf}
 use denote.Triple.Clauses.{lasts}
 use denote.Triple.Statement.{Contract}
-use Rattle.taking.specs.Finish.{finishOf}
-use Rattle.taking.specs.declared.Begun.{Begun}
-use Rattle.taking.proofs.Begun as TBegun
-use Rattle.taking.proofs.Begun.Laws as TBegun′
-use Rattle.taking.specs.declared.Stopped.{Stopped}
-use Rattle.taking.proofs.Stopped as TStopped
-use Rattle.taking.proofs.Stopped.Laws as TStopped′
-use Rattle.taking.specs.declared.Records.{Records}
-use Rattle.taking.proofs.Records as TRecords
-use Rattle.taking.proofs.Records.Laws as TRecords′
-use Rattle.taking.proofs.Took as TTook
-use Rattle.taking.proofs.Took.Laws as TTook′
+use Rattle.packets.specs.Finish.{finishOf}
+use Rattle.packets.specs.declared.Begun.{Begun}
+use Rattle.packets.proofs.Begun as TBegun
+use Rattle.packets.proofs.Begun.Laws as TBegun′
+use Rattle.packets.specs.declared.Stopped.{Stopped}
+use Rattle.packets.proofs.Stopped as TStopped
+use Rattle.packets.proofs.Stopped.Laws as TStopped′
+use Rattle.packets.specs.declared.Records.{Records}
+use Rattle.packets.proofs.Records as TRecords
+use Rattle.packets.proofs.Records.Laws as TRecords′
+use Rattle.packets.proofs.Took as TTook
+use Rattle.packets.proofs.Took.Laws as TTook′
 use Rattle.receive.proofs.Calls.{plain-post}
 use Rattle.receive.proofs.Lent.{vals}
-use Rattle.taking.proofs.packet.finish as g
+use Rattle.packets.proofs.checks.finish as g
 
 module _ {M : Type 1} (𝓤 : URA M) (H : Heap 𝓤) (A : Atoms 𝓤) (mem : Memory → SProp 𝓤) (run : Routine → Fun 𝓤) where
   abbrev pub Finish : Contract 𝓤

@@ -20,7 +20,7 @@ use Rattle.streams.specs.declared.View.the-variants.{Plain}
 use Rattle.streams.specs.Entry.{placeOf, fresh, entryAt}
 use Rattle.streams.specs.Conn.{isOpen}
 use Rattle.streams.specs.Frames.{ruledOf, connAfter, entryAfter, settledOf, judgedOf}
-use Rattle.taking.specs.declared.Stopped.{Stopped}
+use Rattle.packets.specs.declared.Stopped.{Stopped}
 use Rattle.taking.specs.declared.Turned.{Turned}
 use Rattle.taking.specs.Step.{askedOf, askedAt, turnOf}
 use Rattle.taking.specs.Past.{pastOf, pastPadding}

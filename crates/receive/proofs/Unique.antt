@@ -18,7 +18,7 @@ use Rattle.streams.specs.declared.Numbered.{Numbered}
 use Rattle.streams.specs.declared.Opened.{Opened}
 use Rattle.streams.specs.Fits.{fits}
 use Rattle.streams.specs.Frames.Call.{RaiseCredit, RaiseCount}
-use Rattle.taking.specs.declared.Took.{Took}
+use Rattle.packets.specs.declared.Took.{Took}
 use Rattle.taking.specs.declared.TookFrame.{TookFrame}
 use Rattle.taking.specs.Local.{calledWhen, openedNextWhen, openingWhen}
 use Rattle.receive.specs.Firm.{FirmClauses}

@@ -33,9 +33,9 @@ use Rattle.streams.proofs.Conn.Laws as TConn′
 use Rattle.frames.specs.declared.Kind.{Kind}
 use Rattle.frames.proofs.Kind as TKind
 use Rattle.frames.proofs.Kind.Laws as TKind′
-use Rattle.taking.specs.declared.Stopped.{Stopped}
-use Rattle.taking.proofs.Stopped as TStopped
-use Rattle.taking.proofs.Stopped.Laws as TStopped′
+use Rattle.packets.specs.declared.Stopped.{Stopped}
+use Rattle.packets.proofs.Stopped as TStopped
+use Rattle.packets.proofs.Stopped.Laws as TStopped′
 use Rattle.streams.specs.declared.Entry.{Entry}
 use Rattle.streams.proofs.Entry as TEntry
 use Rattle.receive.proofs.Calls.{post-of}

@@ -6,14 +6,14 @@ use Rattle.frames.specs.declared.Kind.{Kind}
 use Rattle.streams.specs.declared.Conn.{Conn}
 use Rattle.streams.specs.declared.Entry.{Entry}
 use Rattle.streams.specs.Fits.{fits}
-use Rattle.taking.specs.declared.Begun.{Begun}
+use Rattle.packets.specs.declared.Begun.{Begun}
 use Rattle.taking.specs.declared.Gate.{Gate}
 use Rattle.taking.specs.declared.Handed.the-variants.{Nothing}
-use Rattle.taking.specs.declared.Records.{Records}
-use Rattle.taking.specs.declared.Took.{Took}
+use Rattle.packets.specs.declared.Records.{Records}
+use Rattle.packets.specs.declared.Took.{Took}
 use Rattle.taking.specs.declared.TookFrame.{TookFrame}
-use Rattle.taking.specs.Begin.{beginOf}
-use Rattle.taking.specs.Finish.{finishOf}
+use Rattle.packets.specs.Begin.{beginOf}
+use Rattle.packets.specs.Finish.{finishOf}
 use Rattle.taking.specs.Local.{gateOf}
 use Rattle.taking.specs.Step.{handedAt}
 use Rattle.receive.specs.Walk.{steppedAt, stepTable, stoppedOf, walkTable}

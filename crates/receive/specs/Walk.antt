@@ -14,7 +14,7 @@ use Rattle.streams.specs.declared.Entry.{Entry}
 use Rattle.streams.specs.Entry.{entryAt}
 use Rattle.streams.specs.Conn.{isOpen}
 use Rattle.taking.specs.declared.Stepped.{Stepped}
-use Rattle.taking.specs.declared.Stopped.{Stopped}
+use Rattle.packets.specs.declared.Stopped.{Stopped}
 use Rattle.taking.specs.declared.Turned.{Turned}
 use Rattle.taking.specs.Step.{askedAt, turnOf}
 

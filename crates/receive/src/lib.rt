@@ -12,6 +12,8 @@ ghost use Rattle.receive.specs.Table.{openedTable, raisedStream, raisedT
 ghost use Rattle.receive.specs.Taking.{tookFrameOf, frameTable, tookOf, tookTable};
 use answers::Answer;
 use frames::Kind;
+use packets::Records;
+use packets::Took;
 use streams::Called;
 use streams::Conn;
 use streams::Entry;
@@ -19,8 +21,6 @@ use streams::Numbered;
 use streams::Opened;
 use streams::Space;
 use taking::Handed;
-use taking::Records;
-use taking::Took;
 use taking::TookFrame;
 
 // Opens a connection: 120 unless the table has 192 entries, then 103. Every entry is set to its type's initial credit.
@@ -66,9 +66,9 @@ pub fn take_frame(c: Conn, t: &mut [Entry], s: &[u8], at: usize, kind: Kind) -> 
 pub fn take_packet(c: Conn, records: Records, t: &mut [Entry], first: u8, s: &[u8]) -> Took
     ensures { λ r. ⌜ (r ≡ tookOf c records (now (t .entry)) first (now (s .entry))) × (now (t .exit) ≡ tookTable c records (now (t .entry)) first (now (s .entry))) ⌝ }
 {
-    let begun = taking::packet::begin(c, records, whole::fits(c, t), first, s);
+    let begun = packets::checks::begin(c, records, whole::fits(c, t), first, s);
     let stopped = step::walk(begun.conn, t, s, begun.at, begun.kind);
-    taking::packet::finish(begun, stopped, records)
+    packets::checks::finish(begun, stopped, records)
 }
 
 // Raises the connection credit.

@@ -4,10 +4,10 @@ ghost use lib.ListN.{length};
 ghost use Rattle.receive.specs.Walk.{steppedAt, stepTable, Ready, stoppedOf, walkTable};
 use answers::Answer;
 use frames::Kind;
+use packets::Stopped;
 use streams::Conn;
 use streams::Entry;
 use taking::Stepped;
-use taking::Stopped;
 
 // The place where a walk stops, and the answer there.
 pub struct Stop {

@@ -7,6 +7,7 @@ use crate::session::Session;
 use crate::session::Slot;
 use crate::state;
 use frames::Kind;
+use packets::Records;
 use records::Record;
 use streams::Called;
 use streams::Conn;
@@ -15,7 +16,6 @@ use streams::Numbered;
 use streams::Opened;
 use streams::Space;
 use taking::Handed;
-use taking::Records;
 use wire::Wrote;
 
 // Opens a connection; a refusal leaves the one there was.

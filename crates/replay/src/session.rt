@@ -1,8 +1,8 @@
 // What is kept between lines: a connection, if one was opened, its three records and its table.
+use packets::Records;
 use records::Record;
 use streams::Conn;
 use streams::Entry;
-use taking::Records;
 
 // The connection, or none so far.
 pub enum Slot {

@@ -2,10 +2,10 @@
 use crate::say;
 use crate::session;
 use crate::session::Ran;
+use packets::Records;
 use streams::Conn;
 use streams::Entry;
 use streams::Mark;
-use taking::Records;
 
 fn mark(out: &mut [u8; 16384], at: usize, m: Mark) -> usize {
     match m {

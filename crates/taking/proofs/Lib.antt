@@ -1,3 +1,2 @@
-pub mod Shared
 pub mod Passed
 pub mod Unique

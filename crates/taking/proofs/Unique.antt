@@ -2,14 +2,6 @@
 -- Assumes nothing.
 use mathlib.Core.Path.{sym, _∙_}
 use Rattle.answers.specs.Firm.{FirmAnswer}
-use Rattle.taking.proofs.head.told.Kinds as told
-use Rattle.taking.proofs.head.told.Reads as told-reads
-use Rattle.taking.proofs.head.size.Kinds as size
-use Rattle.taking.proofs.head.size.Reads as size-reads
-use Rattle.taking.proofs.head.reserved.Kinds as reserved
-use Rattle.taking.proofs.head.reserved.Reads as reserved-reads
-use Rattle.taking.proofs.head.bytes_in.Kinds as bytes-in
-use Rattle.taking.proofs.head.bytes_in.Reads as bytes-in-reads
 use Rattle.taking.proofs.frame.ask.Kinds as ask
 use Rattle.taking.proofs.frame.ask.Reads as ask-reads
 use Rattle.taking.proofs.frame.turn.Kinds as turn
@@ -18,10 +10,6 @@ use Rattle.taking.proofs.frame.past_padding.Kinds as past-padding
 use Rattle.taking.proofs.frame.past_padding.Reads as past-padding-reads
 use Rattle.taking.proofs.frame.handed.Kinds as handed
 use Rattle.taking.proofs.frame.handed.Reads as handed-reads
-use Rattle.taking.proofs.packet.begin.Kinds as begin
-use Rattle.taking.proofs.packet.begin.Reads as begin-reads
-use Rattle.taking.proofs.packet.finish.Kinds as finish
-use Rattle.taking.proofs.packet.finish.Reads as finish-reads
 use Rattle.taking.proofs.local.gate.Kinds as gate
 use Rattle.taking.proofs.local.gate.Reads as gate-reads
 use Rattle.taking.proofs.local.raise_credit.Kinds as raise-credit
@@ -37,18 +25,6 @@ use Rattle.taking.proofs.local.entries.Reads as entries-reads
 use Rattle.taking.proofs.local.entry.Kinds as entry
 use Rattle.taking.proofs.local.entry.Reads as entry-reads
 
-pub told-firm : FirmAnswer 0 told.ps told.r told-reads.Asked told-reads.Post
-told-firm = record { asks-nothing = λ κs a. tt; one-outcome = λ κs a x y s t p q. p ∙ sym q }
-
-pub size-firm : FirmAnswer 0 size.ps size.r size-reads.Asked size-reads.Post
-size-firm = record { asks-nothing = λ κs a. tt; one-outcome = λ κs a x y s t p q. p ∙ sym q }
-
-pub reserved-firm : FirmAnswer 0 reserved.ps reserved.r reserved-reads.Asked reserved-reads.Post
-reserved-firm = record { asks-nothing = λ κs a. tt; one-outcome = λ κs a x y s t p q. p ∙ sym q }
-
-pub bytes-in-firm : FirmAnswer 0 bytes-in.ps bytes-in.r bytes-in-reads.Asked bytes-in-reads.Post
-bytes-in-firm = record { asks-nothing = λ κs a. tt; one-outcome = λ κs a x y s t p q. p .0 ∙ sym (q .0) }
-
 pub ask-firm : FirmAnswer 1 ask.ps ask.r ask-reads.Asked ask-reads.Post
 ask-firm = record { asks-nothing = λ κs a. tt; one-outcome = λ κs a x y s t p q. p ∙ sym q }
 
@@ -60,12 +36,6 @@ past-padding-firm = record { asks-nothing = λ κs a. tt; one-outcome = λ κs a
 
 pub handed-firm : FirmAnswer 1 handed.ps handed.r handed-reads.Asked handed-reads.Post
 handed-firm = record { asks-nothing = λ κs a. tt; one-outcome = λ κs a x y s t p q. p ∙ sym q }
-
-pub begin-firm : FirmAnswer 1 begin.ps begin.r begin-reads.Asked begin-reads.Post
-begin-firm = record { asks-nothing = λ κs a. tt; one-outcome = λ κs a x y s t p q. p ∙ sym q }
-
-pub finish-firm : FirmAnswer 0 finish.ps finish.r finish-reads.Asked finish-reads.Post
-finish-firm = record { asks-nothing = λ κs a. tt; one-outcome = λ κs a x y s t p q. p ∙ sym q }
 
 pub gate-firm : FirmAnswer 0 gate.ps gate.r gate-reads.Asked gate-reads.Post
 gate-firm = record { asks-nothing = λ κs a. tt; one-outcome = λ κs a x y s t p q. p ∙ sym q }

@@ -46,15 +46,15 @@ use Rattle.receive.proofs.Lent.{calls-lent-with}
 use Rattle.streams.specs.declared.Conn.{Conn}
 use Rattle.streams.proofs.Conn as TConn
 use Rattle.streams.proofs.Conn.Laws as TConn′
-use Rattle.taking.specs.declared.Records.{Records}
-use Rattle.taking.proofs.Records as TRecords
-use Rattle.taking.proofs.Records.Laws as TRecords′
+use Rattle.packets.specs.declared.Records.{Records}
+use Rattle.packets.proofs.Records as TRecords
+use Rattle.packets.proofs.Records.Laws as TRecords′
 use Rattle.held.specs.declared.HeldPacket.{HeldPacket}
 use Rattle.held.proofs.HeldPacket as THeldPacket
 use Rattle.held.proofs.HeldPacket.Laws as THeldPacket′
-use Rattle.taking.specs.declared.Took.{Took}
-use Rattle.taking.proofs.Took as TTook
-use Rattle.taking.proofs.Took.Laws as TTook′
+use Rattle.packets.specs.declared.Took.{Took}
+use Rattle.packets.proofs.Took as TTook
+use Rattle.packets.proofs.Took.Laws as TTook′
 use Rattle.streams.specs.declared.Entry.{Entry}
 use Rattle.streams.proofs.Entry as TEntry
 use Rattle.streams.proofs.Entry.Laws as TEntry′

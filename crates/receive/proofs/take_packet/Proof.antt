@@ -41,8 +41,8 @@ use denote.Triple.Table.{entered, cited}
 use denote.Triple.Walked.{says, Stays, stay-slice, stay-none-slice, stay-none, walkOf, goes-slice, goes-none-slice, goes-none, Walks, ends-at, walked, walk-meets}
 use denote.Exit.{yes}
 use Rattle.streams.specs.Fits as whole
-use Rattle.taking.specs.Begin.{beginOf}
-use Rattle.taking.specs.Finish.{finishOf}
+use Rattle.packets.specs.Begin.{beginOf}
+use Rattle.packets.specs.Finish.{finishOf}
 use Rattle.receive.specs.Walk.{stoppedOf, walkTable}
 use Rattle.receive.specs.Taking.{tookOf, tookTable}
 use Rattle.receive.proofs.Calls.{calls-plain, calls-given}
@@ -51,18 +51,18 @@ use Rattle.receive.proofs.Begins.{begins-ready}
 use Rattle.streams.specs.declared.Conn.{Conn}
 use Rattle.streams.proofs.Conn as TConn
 use Rattle.streams.proofs.Conn.Laws as TConn′
-use Rattle.taking.specs.declared.Records.{Records}
-use Rattle.taking.proofs.Records as TRecords
-use Rattle.taking.proofs.Records.Laws as TRecords′
-use Rattle.taking.specs.declared.Took.{Took}
-use Rattle.taking.proofs.Took as TTook
-use Rattle.taking.proofs.Took.Laws as TTook′
-use Rattle.taking.specs.declared.Begun.{Begun}
-use Rattle.taking.proofs.Begun as TBegun
-use Rattle.taking.proofs.Begun.Laws as TBegun′
-use Rattle.taking.specs.declared.Stopped.{Stopped}
-use Rattle.taking.proofs.Stopped as TStopped
-use Rattle.taking.proofs.Stopped.Laws as TStopped′
+use Rattle.packets.specs.declared.Records.{Records}
+use Rattle.packets.proofs.Records as TRecords
+use Rattle.packets.proofs.Records.Laws as TRecords′
+use Rattle.packets.specs.declared.Took.{Took}
+use Rattle.packets.proofs.Took as TTook
+use Rattle.packets.proofs.Took.Laws as TTook′
+use Rattle.packets.specs.declared.Begun.{Begun}
+use Rattle.packets.proofs.Begun as TBegun
+use Rattle.packets.proofs.Begun.Laws as TBegun′
+use Rattle.packets.specs.declared.Stopped.{Stopped}
+use Rattle.packets.proofs.Stopped as TStopped
+use Rattle.packets.proofs.Stopped.Laws as TStopped′
 use Rattle.streams.specs.declared.Entry.{Entry}
 use Rattle.streams.proofs.Entry as TEntry
 use Rattle.receive.proofs.FitsCall.{Whole, to-fits, Did-fits, goes-fits, gave-fits}
@@ -77,15 +77,15 @@ use Rattle.receive.proofs.take_packet.Code.Mir as mir
 use Rattle.receive.proofs.whole.fits.Symbol as fits-def
 use Rattle.receive.proofs.whole.fits.Symbol.{name as #fits}
 use Rattle.receive.proofs.whole.fits.Met as fits-thm
-use Rattle.taking.proofs.packet.begin.Symbol as begin-def
-use Rattle.taking.proofs.packet.begin.Symbol.{name as #begin}
-use Rattle.taking.proofs.packet.begin.Met as begin-thm
+use Rattle.packets.proofs.checks.begin.Symbol as begin-def
+use Rattle.packets.proofs.checks.begin.Symbol.{name as #begin}
+use Rattle.packets.proofs.checks.begin.Met as begin-thm
 use Rattle.receive.proofs.step.walk.Symbol as walk-def
 use Rattle.receive.proofs.step.walk.Symbol.{name as #walk}
 use Rattle.receive.proofs.step.walk.Met as walk-thm
-use Rattle.taking.proofs.packet.finish.Symbol as finish-def
-use Rattle.taking.proofs.packet.finish.Symbol.{name as #finish}
-use Rattle.taking.proofs.packet.finish.Met as finish-thm
+use Rattle.packets.proofs.checks.finish.Symbol as finish-def
+use Rattle.packets.proofs.checks.finish.Symbol.{name as #finish}
+use Rattle.packets.proofs.checks.finish.Met as finish-thm
 
 abbrev stayed : Stays (f.ended .signature .params) (f.ended .kept)
 stayed = (stay-none (λ _. TConn.the-row) yes, (stay-none (λ _. TRecords.the-row) yes, (stay-slice (0 ∷ []) tt (plain (λ _. TEntry.the-row)), (stay-none (λ _. u8) yes, (stay-none-slice (1 ∷ []) tt (plain (λ _. u8)) yes, tt)))))
@@ -243,6 +243,6 @@ take-packet-spec 𝓤 H 𝓜 𝓖 𝓡 =
     (tables 𝓤 H 𝓜 𝓡 code.env .C) (tables 𝓤 H 𝓜 𝓡 code.env .Λ) #f code.function (code.unfolded 𝓤 H 𝓜 𝓡)
     (f-meets 𝓤 H (𝓖 .A) (givenOf 𝓤 H 𝓜 𝓖) (𝓜 .mem) (𝓡 .run) (tablesOf 𝓤 H 𝓜 (tables 𝓤 H 𝓜 𝓡 code.env))
     (cited 𝓤 H (Whole 𝓤 H (𝓖 .A) (𝓜 .mem) (𝓡 .run)) 𝓜 𝓡 code.env #fits fits-def.routine code.calls-receive·whole·fits (fits-thm.met 𝓤 H 𝓜 𝓖 𝓡))
-    (cited 𝓤 H (Begin 𝓤 H (𝓖 .A) (𝓜 .mem) (𝓡 .run)) 𝓜 𝓡 code.env #begin begin-def.routine code.calls-taking·packet·begin (begin-thm.met 𝓤 H 𝓜 𝓖 𝓡))
+    (cited 𝓤 H (Begin 𝓤 H (𝓖 .A) (𝓜 .mem) (𝓡 .run)) 𝓜 𝓡 code.env #begin begin-def.routine code.calls-packets·checks·begin (begin-thm.met 𝓤 H 𝓜 𝓖 𝓡))
     (cited 𝓤 H (Walk 𝓤 H (𝓖 .A) (𝓜 .mem) (𝓡 .run)) 𝓜 𝓡 code.env #walk walk-def.routine code.calls-receive·step·walk (walk-thm.met 𝓤 H 𝓜 𝓖 𝓡))
-    (cited 𝓤 H (Finish 𝓤 H (𝓖 .A) (𝓜 .mem) (𝓡 .run)) 𝓜 𝓡 code.env #finish finish-def.routine code.calls-taking·packet·finish (finish-thm.met 𝓤 H 𝓜 𝓖 𝓡)))
+    (cited 𝓤 H (Finish 𝓤 H (𝓖 .A) (𝓜 .mem) (𝓡 .run)) 𝓜 𝓡 code.env #finish finish-def.routine code.calls-packets·checks·finish (finish-thm.met 𝓤 H 𝓜 𝓖 𝓡)))

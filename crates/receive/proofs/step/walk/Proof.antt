@@ -64,9 +64,9 @@ use Rattle.streams.proofs.Conn.Laws as TConn′
 use Rattle.frames.specs.declared.Kind.{Kind}
 use Rattle.frames.proofs.Kind as TKind
 use Rattle.frames.proofs.Kind.Laws as TKind′
-use Rattle.taking.specs.declared.Stopped.{Stopped}
-use Rattle.taking.proofs.Stopped as TStopped
-use Rattle.taking.proofs.Stopped.Laws as TStopped′
+use Rattle.packets.specs.declared.Stopped.{Stopped}
+use Rattle.packets.proofs.Stopped as TStopped
+use Rattle.packets.proofs.Stopped.Laws as TStopped′
 use Rattle.receive.specs.declared.step.Stop.{Stop}
 use Rattle.receive.proofs.step.Stop as TStop
 use Rattle.receive.proofs.step.Stop.Laws as TStop′

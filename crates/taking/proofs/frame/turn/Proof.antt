@@ -3,7 +3,7 @@
 use borrow.Author.Needs.{needs}
 use mathlib.Core.Path.{_∙_}
 use Rattle.taking.specs.Step.{turnOf}
-use Rattle.taking.proofs.Shared.{refused}
+use Rattle.streams.proofs.Accepts.{refused}
 use Rattle.taking.proofs.frame.turn.Statement.{statement}
 use Rattle.taking.proofs.frame.turn.Tie as tie
 

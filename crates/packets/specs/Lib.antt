@@ -1,0 +1,4 @@
+pub mod First
+pub mod Spaces
+pub mod Begin
+pub mod Finish

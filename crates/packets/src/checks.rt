@@ -1,0 +1,238 @@
+// A packet before and after its frames: the order of checks up to them, and the record of its number.
+ghost use mathlib.Core.Path.{_≡_};
+ghost use Rattle.records.specs.Parts.{joined};
+ghost use Rattle.streams.specs.Frames.{spaceOf};
+ghost use Rattle.packets.specs.Spaces.{ofParts, recordOf, recordsFit, recordedOf};
+ghost use Rattle.packets.specs.Begin.{leftOf, closesOf, numberedOf, inSpaceOf, beginOf};
+ghost use Rattle.packets.specs.Finish.{finishOf};
+use crate::Begun;
+use crate::Records;
+use crate::Stopped;
+use crate::Told;
+use crate::Took;
+use crate::head;
+use answers::Answer;
+use frames::Kind;
+use numbers::Recovered;
+use streams::Conn;
+use streams::Mark;
+
+// A packet that is refused and changes nothing.
+fn left(c: Conn, answer: Answer, end: usize) -> Begun
+    ensures { λ r. ⌜ r ≡ leftOf c answer end ⌝ }
+{
+    Begun {
+        answer,
+        conn: c,
+        kind: Kind::OneRtt,
+        at: end,
+        number: 0,
+    }
+}
+
+// A packet that closes the connection with code 10 and no type.
+fn closes(c: Conn, end: usize) -> Begun
+    ensures { λ r. ⌜ r ≡ closesOf c end ⌝ }
+{
+    left(
+        c.marked(Mark::Code {
+            answer: Answer::ProtocolViolation,
+            ty: 0,
+        }),
+        Answer::ProtocolViolation,
+        end,
+    )
+}
+
+// The number is known and tested: 106 or 107, the reserved bits, no frames.
+fn numbered(
+    c: Conn,
+    test: Answer,
+    kind: Kind,
+    number: u64,
+    first: u8,
+    n: usize,
+    end: usize,
+) -> Begun
+    ensures { λ r. ⌜ r ≡ numberedOf c test kind number first n end ⌝ }
+{
+    let Answer::Accepted = test else {
+        return left(c, test, end);
+    };
+    if head::reserved(first) {
+        return closes(c, end);
+    }
+    if end <= n {
+        return closes(c, end);
+    }
+    Begun {
+        answer: Answer::Accepted,
+        conn: c,
+        kind,
+        at: n,
+        number,
+    }
+}
+
+// A packet of the space whose record is lent: too few bytes, 111, and then as above.
+fn in_space(c: Conn, words: &[u64; 128], top: u64, kind: Kind, first: u8, s: &[u8]) -> Begun
+    ensures { λ r. ⌜ r ≡ inSpaceOf c (joined (now (words .entry)) top) kind first (now (s .entry)) ⌝ }
+{
+    let size = head::size(first);
+    let n = head::bytes_in(size);
+    if s.len() < n {
+        return left(c, Answer::NoPacket, s.len());
+    }
+    match numbers::recover(top, size, head::truncated(s, n)) {
+        Recovered::Refused { answer } => left(c, answer, s.len()),
+        Recovered::Is { number } => numbered(
+            c,
+            records::test_of(words, top, number),
+            kind,
+            number,
+            first,
+            n,
+            s.len(),
+        ),
+    }
+}
+
+// Whether all three records can be. They are lent in their parts, since all three by value are a copy of 3 KB.
+fn fit<'a>(
+    initial: &'a [u64; 128],
+    initial_top: u64,
+    handshake: &'a [u64; 128],
+    handshake_top: u64,
+    application: &'a [u64; 128],
+    application_top: u64,
+) -> bool
+    ensures { λ r. ⌜ r ≡ recordsFit (ofParts (now (initial .entry)) «initial_top» (now (handshake .entry)) «handshake_top» (now (application .entry)) «application_top») ⌝ }
+{
+    let Answer::Accepted = records::check_of(initial, initial_top) else {
+        return false;
+    };
+    let Answer::Accepted = records::check_of(handshake, handshake_top) else {
+        return false;
+    };
+    let Answer::Accepted = records::check_of(application, application_top) else {
+        return false;
+    };
+    true
+}
+
+// A packet of a kind, with the record of its space; 0-RTT and 1-RTT share one.
+fn by_kind<'a>(
+    c: Conn,
+    initial: &'a [u64; 128],
+    initial_top: u64,
+    handshake: &'a [u64; 128],
+    handshake_top: u64,
+    application: &'a [u64; 128],
+    application_top: u64,
+    kind: Kind,
+    first: u8,
+    s: &[u8],
+) -> Begun
+    ensures { λ r. ⌜ r ≡ inSpaceOf c (recordOf (ofParts (now (initial .entry)) «initial_top» (now (handshake .entry)) «handshake_top» (now (application .entry)) «application_top») (spaceOf kind)) kind first (now (s .entry)) ⌝ }
+{
+    match kind {
+        Kind::Initial => in_space(c, initial, initial_top, kind, first, s),
+        Kind::Handshake => in_space(c, handshake, handshake_top, kind, first, s),
+        _ => in_space(c, application, application_top, kind, first, s),
+    }
+}
+
+// A packet up to its frames; `whole` says whether the table fits.
+pub fn begin(c: Conn, records: Records, whole: bool, first: u8, s: &[u8]) -> Begun
+    ensures { λ r. ⌜ r ≡ beginOf c records whole first (now (s .entry)) ⌝ }
+{
+    if !whole {
+        return left(c, Answer::DoesNotFit, s.len());
+    }
+    if !fit(
+        &records.initial.words,
+        records.initial.top,
+        &records.handshake.words,
+        records.handshake.top,
+        &records.application.words,
+        records.application.top,
+    ) {
+        return left(c, Answer::DoesNotFit, s.len());
+    }
+    let mark = c.mark;
+    if !mark.is_open() {
+        return left(c, Answer::Closed, s.len());
+    }
+    let Told::Carries { kind } = head::told(first) else {
+        return left(c, Answer::NoPacket, s.len());
+    };
+    by_kind(
+        c,
+        &records.initial.words,
+        records.initial.top,
+        &records.handshake.words,
+        records.handshake.top,
+        &records.application.words,
+        records.application.top,
+        kind,
+        first,
+        s,
+    )
+}
+
+// The records with a number more in the space of a packet.
+fn recorded(mut records: Records, kind: Kind, number: u64) -> Records
+    ensures { λ r. ⌜ r ≡ recordedOf records (spaceOf kind) number ⌝ }
+{
+    match kind {
+        Kind::Initial => {
+            let top = records.initial.top;
+            let told = records::take_of(&mut records.initial.words, top, number);
+            records.initial.top = told.top;
+        },
+        Kind::Handshake => {
+            let top = records.handshake.top;
+            let told = records::take_of(&mut records.handshake.words, top, number);
+            records.handshake.top = told.top;
+        },
+        _ => {
+            let top = records.application.top;
+            let told = records::take_of(&mut records.application.words, top, number);
+            records.application.top = told.top;
+        },
+    }
+    records
+}
+
+// A packet after its frames: its number is recorded if none was refused.
+pub fn finish(begun: Begun, stopped: Stopped, records: Records) -> Took
+    ensures { λ r. ⌜ r ≡ finishOf begun stopped records ⌝ }
+{
+    let conn = stopped.conn;
+    let place = stopped.place;
+    let before = begun.answer;
+    let Answer::Accepted = before else {
+        return Took {
+            answer: before,
+            place,
+            conn,
+            records,
+        };
+    };
+    let answer = stopped.answer;
+    let Answer::Accepted = answer else {
+        return Took {
+            answer,
+            place,
+            conn,
+            records,
+        };
+    };
+    let kind = begun.kind;
+    Took {
+        answer,
+        place,
+        conn,
+        records: recorded(records, kind, begun.number),
+    }
+}

@@ -1,0 +1,89 @@
+// The plain first byte of a packet and the bytes of its number (RFC 9000, 17.1 to 17.3).
+ghost use mathlib.Core.Path.{_≡_};
+ghost use Prim.Native.Nat.{_≤_};
+ghost use lib.ListN.{length};
+ghost use Rattle.wire.specs.Number.{bigEndian};
+ghost use Rattle.numbers.specs.Numbers.{bytesIn};
+ghost use Rattle.packets.specs.First.{toldOf, sizeIn, reservedOf};
+use crate::Told;
+use frames::Kind;
+use numbers::Size;
+
+// The kind of packet.
+pub(crate) fn told(first: u8) -> Told
+    ensures { λ r. ⌜ r ≡ toldOf first ⌝ }
+{
+    if first / 64 % 2 == 0 {
+        return Told::NoPacket;
+    }
+    if first / 128 == 0 {
+        return Told::Carries { kind: Kind::OneRtt };
+    }
+    let form = first / 16 % 4;
+    match form {
+        0 => Told::Carries {
+            kind: Kind::Initial,
+        },
+        1 => Told::Carries {
+            kind: Kind::ZeroRtt,
+        },
+        2 => Told::Carries {
+            kind: Kind::Handshake,
+        },
+        _ => Told::NoPacket,
+    }
+}
+
+// The length of the number: the low two bits, plus one.
+pub(crate) fn size(first: u8) -> Size
+    ensures { λ r. ⌜ r ≡ sizeIn first ⌝ }
+{
+    let low = first % 4;
+    match low {
+        0 => Size::One,
+        1 => Size::Two,
+        2 => Size::Three,
+        _ => Size::Four,
+    }
+}
+
+// Whether reserved bits are set: 0x0c of a long header, 0x18 of a short one.
+pub(crate) fn reserved(first: u8) -> bool
+    ensures { λ r. ⌜ r ≡ reservedOf first ⌝ }
+{
+    if first / 128 == 0 {
+        return first / 8 % 4 != 0;
+    }
+    first / 4 % 4 != 0
+}
+
+pub(crate) fn bytes_in(size: Size) -> usize
+    ensures { λ r. ⌜ (r ≡ bytesIn size) × (1 ≤ r) × (r ≤ 4) ⌝ }
+{
+    match size {
+        Size::One => 1,
+        Size::Two => 2,
+        Size::Three => 3,
+        Size::Four => 4,
+    }
+}
+
+fn wide(x: u8) -> u64
+    ensures { λ r. ⌜ r ≡ x ⌝ }
+{
+    x as u64
+}
+
+// The truncated number: the first bytes, the highest first.
+pub(crate) fn truncated(s: &[u8], n: usize) -> u64
+    requires { ⌜ (n ≤ 4) × (n ≤ length (now s)) ⌝ }
+    ensures { λ r. ⌜ r ≡ bigEndian (now (s .entry)) 0 n ⌝ }
+{
+    let mut value: u64 = 0;
+    let mut i: usize = 0;
+    while i < n {
+        value = value * 256 + wide(s[i]);
+        i += 1;
+    }
+    value
+}
