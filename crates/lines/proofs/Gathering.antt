@@ -1,9 +1,9 @@
 -- A line with a piece more is what writing the piece behind it answers; and what is gathered, by whether a newline is found.
 -- Assumes nothing.
-use mathlib.Core.Path.{_≡_, refl, sym, _∙_}
+use mathlib.Core.Path.{_≡_, refl}
 use mathlib.Core.Bool.{Bool, true, false}
 use mathlib.Core.List.{List}
-use Prim.Native.Nat.{ℕ, suc, _+_, _-_, _≤_, _<_}
+use Prim.Native.Nat.{ℕ, _+_, _-_, _≤_, _<_}
 use native.Mathlib.Numerals.{add-one}
 use native.Mathlib.Omega.{arith}
 use borrow.Author.Tests.{lt-ltb, le-ltb}
@@ -11,15 +11,13 @@ use lib.Dec.{leb}
 use lib.ListN.{length, take, drop}
 use Rattle.answers.specs.Choice.{_⇒_∣_}
 use Rattle.answers.specs.declared.Answer.the-variants.{NoRoom}
-use Rattle.answers.proofs.Choice.{holds}
 use Rattle.wire.specs.declared.Wrote.{Wrote}
 use Rattle.wire.specs.declared.Wrote.the-variants.{To, Refused}
 use Rattle.text.specs.Text.{wroteTextOf}
-use Rattle.text.specs.Words.{before, findOf}
+use Rattle.text.specs.Words.{findOf}
 use Rattle.lines.specs.Gathered.{grownOf, pieceOf, endsIn, usedOf, gatheredOf}
 use Rattle.lines.specs.declared.gather.Line.{Line}
 use Rattle.lines.specs.declared.gather.Line.the-variants.{Kept, TooLong}
-use Rattle.lines.specs.declared.gather.Gathered.{Gathered}
 use Rattle.lines.proofs.Finding.{from-start, up-to, within}
 
 abbrev pub lineAfter : Wrote → Line

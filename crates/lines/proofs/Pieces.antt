@@ -1,16 +1,15 @@
 -- What is kept of a line is the line, in however many pieces it comes; and each turn uses some of what comes: a piece without a newline, and the newline if there is one.
 -- Assumes nothing.
-use mathlib.Core.Path.{_≡_, refl, sym, _∙_, ap}
+use mathlib.Core.Path.{_≡_, refl, sym, _∙_}
 use mathlib.Core.Bool.{true, false}
 use mathlib.Core.List.{List, [], _∷_, _++_}
-use Prim.Native.Nat.{ℕ, suc, _+_, _≤_, _<_}
+use Prim.Native.Nat.{ℕ, _+_, _≤_, _<_}
 use native.Mathlib.Nat.{zero-add}
 use native.Mathlib.Omega.{arith}
 use borrow.Author.Tests.{le-leb, lt-leb, ltb-true, ltb-false, lt-ltb, le-ltb}
-use lib.ListN.{length, getD, take, drop, length-append}
-use lib.Seq.{sets, length-sets, sets-eq, split-at, take-all, take-at, getD-take, length-take-le}
+use lib.ListN.{length, getD, drop, length-append}
+use lib.Seq.{length-sets, sets-eq, split-at, take-all, take-at, getD-take, length-take-le}
 use Rattle.answers.proofs.Choice.{below-or-not}
-use Rattle.text.specs.Text.{outTextOf}
 use Rattle.text.specs.Words.{before}
 use Rattle.text.proofs.Steps.{accepted, refused}
 use Rattle.text.proofs.Search.{found}

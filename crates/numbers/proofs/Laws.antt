@@ -1,7 +1,7 @@
 -- Packet numbers as a caller needs them: while none is recorded a number is itself, a recovered number agrees with what was read, and a size that is given is the least that is enough.
 -- Assumes nothing.
 use mathlib.Core.Path.{_≡_, refl, sym, _∙_, ap, subst}
-use mathlib.Core.Bool.{true, false, _&&_, and-eq-true-iff}
+use mathlib.Core.Bool.{_&&_, and-eq-true-iff}
 use Prim.Native.Nat.{ℕ, zero, suc, _+_, _-_, _/_, _%_, _^_, _≤_, _<_}
 use native.Mathlib.Nat.{zero-add, zero-mul, zero-div, mod-mod, mod-eq-of-lt, mul-add-mod-self-right, add-mod-right, mod-eq-sub-mod, pow-le-pow-right}
 use native.Mathlib.Omega.{arith}

@@ -1,6 +1,6 @@
 -- Bytes, the highest first, over their count: they join, they are as many as asked for, and what is spelled out reads back.
 -- Assumes nothing.
-use mathlib.Core.Path.{_≡_, refl, ap}
+use mathlib.Core.Path.{_≡_, refl}
 use mathlib.Core.List.{List, [], _∷_, _++_, append-nil, append-assoc}
 use Prim.Native.Nat.{ℕ, zero, suc, _+_, _*_, _/_, _%_, _^_, _<_}
 use native.Mathlib.Nat.{add-zero, add-suc, add-assoc, add-mul, mul-one, mul-assoc, div-one, div-div-eq-div-mul, div-lt-iff-lt-mul, pow-suc, pow-succ'}

@@ -3,7 +3,6 @@
 use borrow.Author.Needs.{needs}
 use Rattle.wire.proofs.BigEndian.{spelled-join, length-spelled}
 use Rattle.wire.proofs.Standing.{sets-append}
-use mathlib.Core.Path.{ap}
 use Rattle.wire.proofs.put_four.Statement.{statement}
 use Rattle.wire.proofs.put_four.Tie as tie
 

@@ -1,6 +1,6 @@
 -- `frames::fields::ended` meets its contract: it reads the numbers that the definition reads, and asks for the same fault.
 -- Assumes nothing.
-use mathlib.Core.Path.{refl, sym, _∙_}
+use mathlib.Core.Path.{sym, _∙_}
 use Rattle.frames.specs.Fields.{endedAt}
 use borrow.Author.Needs.{needs}
 use Rattle.frames.proofs.fields.ended.Statement.{statement}

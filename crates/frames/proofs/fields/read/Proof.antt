@@ -1,6 +1,6 @@
 -- `frames::fields::read` meets its contract: it reads what the layout says, in the order of the definition, and goes on with what stands behind it.
 -- Assumes nothing.
-use mathlib.Core.Path.{refl, sym, _∙_}
+use mathlib.Core.Path.{sym, _∙_}
 use Rattle.frames.specs.Fields.{fieldsAt}
 use borrow.Author.Needs.{needs}
 use Rattle.frames.proofs.fields.read.Statement.{statement}

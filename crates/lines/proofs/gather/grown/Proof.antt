@@ -3,7 +3,6 @@
 use mathlib.Core.Path.{refl, sym, _∙_, ap}
 use borrow.Author.Needs.{needs}
 use denote.Ref.{now}
-use lib.ListN.{length}
 use Rattle.lines.specs.Gathered.{grownOf, rowOf}
 use Rattle.lines.proofs.Gathering.{lineAfter, as-written}
 use Rattle.lines.proofs.gather.grown.Statement.{statement}
