@@ -12,6 +12,7 @@ use Rattle.frames.specs.declared.Kind.the-variants.{OneRtt}
 use Rattle.streams.specs.Entry.{fresh}
 use Rattle.streams.specs.declared.Mark.{Mark}
 use Rattle.streams.specs.declared.Mark.the-variants.{Code}
+use Rattle.accounts.specs.Neighbours.{small}
 use Rattle.held.specs.Held.{heldOpenedOf, heldFrameOf}
 use Rattle.held.specs.declared.HeldOpened.{HeldOpened}
 use Rattle.held.specs.declared.HeldFrame.{HeldFrame}
@@ -19,9 +20,9 @@ use Rattle.text.specs.Text.{wroteTextOf, outTextOf}
 use Rattle.rows.specs.Listing.{takenRowOf, afterOf}
 use Rattle.pages.specs.declared.Page.{Page}
 
--- "The small connection: counts 4 and 4, stream credits 16, connection credit 40"
+-- the small connection, opened on a table of 192 entries
 unfoldable pub smallOf : HeldOpened
-smallOf = heldOpenedOf (replicate 192 (fresh 0)) 16 16 16 4 4 40
+smallOf = heldOpenedOf (replicate 192 (fresh 0)) (small .init0) (small .init1) (small .init2) (small .count0) (small .count2) (small .credit)
 
 -- the frame that is next, taken
 abbrev pub takenFrom : Page → List ℕ → HeldFrame
