@@ -11,6 +11,7 @@ pub mod FinishCall
 pub mod FitsCall
 pub mod GateCall
 pub mod HandedCall
+pub mod Leave
 pub mod Lent
 pub mod OneMoreCall
 pub mod OpenStreamCall

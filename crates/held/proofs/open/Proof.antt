@@ -19,7 +19,7 @@ use contract.Monad.{Fun}
 use contract.Running.{givenOf, tables, tablesOf}
 use types.Kit.{Given, Item, ‵, ⋆, Sq, runs, atRet, _$_, _∵_, !, qed, by, move, keep, use1, rewrite, fjoin, suffices, frame, done}
 use types.Part.{agg}
-use types.Run.{look, init, forget, stop, from, load, lit, addr, of-opd, and-then, no-more, assigns, land, returns, enter, alloc1, alloc0, params1, pass1, pass0, free1, free0}
+use types.Run.{look, init, stop, from, load, lit, addr, of-opd, and-then, no-more, assigns, land, returns, enter, alloc1, alloc0, params1, pass1, pass0}
 use sound.WpLaws.{FmC, fmOf, WpFn-mono}
 use denote.RattleType.{owns}
 use denote.Laws.{Is}
@@ -40,6 +40,7 @@ use denote.Triple.Table.{entered, cited}
 use denote.Triple.Walked.{says, Stays, stay-none, walkOf, goes-none, Walks, ends-at, walked, walk-meets}
 use denote.Exit.{yes}
 use Rattle.taking.specs.Local.{openingWhen}
+use Rattle.receive.proofs.Leave.{leaves}
 use Rattle.receive.specs.Table.{openedTable}
 use Rattle.held.specs.Held.{heldOpenedOf}
 use Rattle.receive.proofs.Lent.{calls-lent-mut}
@@ -126,46 +127,8 @@ module _ {M : Type 1} (𝓤 : URA M) (H : Heap 𝓤) (A : Atoms 𝓤) (W : Given
           rewrite ! 1 (λ (v : Val). ‵ (fat fullShare (tyArray TEntry′.mir 192) l₁₂ 0 v)) (same zs₀) refl $
           assigns ! (agg ! (and-then ! (load ! (from ! (stop !)) (look ! 7 refl)) (and-then ! (load ! (from ! (stop !)) (look ! 1 refl)) (no-more !)))) (from ! (stop !)) (init ! 24 refl (LL.lawful THeldOpened.the-type THeldOpened′.the-laws 𝓤 H A W .typed out _ (LL.owes THeldOpened.the-type THeldOpened′.the-laws out (gv, (fielded 192 zs₀ gz, tt))) .0)) $
           returns ! (look ! 24 refl) $
-          forget ! 1 refl $
-          forget ! 3 refl $
-          forget ! 5 refl $
-          forget ! 7 refl $
-          forget ! 0 refl $
-          forget ! 10 refl $
-          forget ! 12 refl $
-          forget ! 14 refl $
-          forget ! 16 refl $
-          forget ! 18 refl $
-          forget ! 20 refl $
-          forget ! 22 refl $
-          forget ! 24 refl $
-          move ! (24 ∷ 25 ∷ []) $
-          free1 ! $
-          move ! (22 ∷ 23 ∷ []) $
-          free1 ! $
-          move ! (20 ∷ 21 ∷ []) $
-          free1 ! $
-          move ! (18 ∷ 19 ∷ []) $
-          free1 ! $
-          move ! (16 ∷ 17 ∷ []) $
-          free1 ! $
-          move ! (14 ∷ 15 ∷ []) $
-          free1 ! $
-          move ! (12 ∷ 13 ∷ []) $
-          free1 ! $
-          move ! (10 ∷ 11 ∷ []) $
-          free1 ! $
-          move ! (0 ∷ 9 ∷ []) $
-          free1 ! $
-          move ! (6 ∷ 7 ∷ []) $
-          free1 ! $
-          move ! (4 ∷ 5 ∷ []) $
-          free1 ! $
-          move ! (2 ∷ 3 ∷ []) $
-          free1 ! $
-          move ! (0 ∷ 1 ∷ []) $
-          free1 ! $
-          free0 ! $
+          move ! (1 ∷ 2 ∷ 3 ∷ 4 ∷ 5 ∷ 6 ∷ 7 ∷ 8 ∷ 0 ∷ []) $
+          leaves ! refl $
           by ! (exits out refl (LL.owes THeldOpened.the-type THeldOpened′.the-laws out (gv, (fielded 192 zs₀ gz, tt))))))
         where
           long : Is (Array TEntry.the-row 192) ts (only (array-vals (LL.vals TEntry.the-type TEntry′.the-laws) ts) ∷ []) → length ts ≡ 192

@@ -19,7 +19,7 @@ use contract.Monad.{Fun}
 use contract.Running.{givenOf, tables, tablesOf}
 use types.Kit.{Given, Item, ‵, ⋆, Sq, runs, atRet, _$_, _∵_, !, qed, by, move, keep, use1, rewrite, fjoin, suffices, frame, done}
 use types.Part.{agg}
-use types.Run.{look, init, forget, stop, from, load, lit, addr, of-opd, and-then, no-more, assigns, land, returns, enter, alloc1, alloc0, params1, pass1, pass0, free1, free0}
+use types.Run.{look, init, stop, from, load, lit, addr, of-opd, and-then, no-more, assigns, land, returns, enter, alloc1, alloc0, params1, pass1, pass0}
 use sound.WpLaws.{FmC, fmOf, WpFn-mono}
 use denote.RattleType.{owns}
 use denote.Laws.{Is}
@@ -39,6 +39,7 @@ use denote.Triple.Table.{entered, cited}
 use denote.Triple.Walked.{says, Stays, stay-none, walkOf, goes-none, Walks, ends-at, walked, walk-meets}
 use denote.Exit.{yes}
 use Rattle.streams.specs.Fits.{fits}
+use Rattle.receive.proofs.Leave.{leaves}
 use Rattle.receive.proofs.Lent.{calls-lent-shr}
 use Rattle.taking.specs.Local.{openedNextWhen}
 use Rattle.streams.specs.declared.Conn.{Conn}
@@ -115,28 +116,8 @@ module _ {M : Type 1} (𝓤 : URA M) (H : Heap 𝓤) (A : Atoms 𝓤) (W : Given
           calls-lent-shr ! fm (Next 𝓤 H A mem run) known-next TEntry.the-row fullShare ts l₄ 0 (room gts) (named 0) (λ ν γ. to-next 𝓤 H A mem run c (ν ∷ []) fullShare γ ts l₄ 0 ty) (λ ν γ. goes-next 𝓤 H A mem run c (ν ∷ []) fullShare γ ts l₄ 0 ty W gc gty) (LL.val TNumbered.the-type TNumbered′.the-laws out) (Did-next 𝓤 H A mem run c [] fullShare 0 ts l₄ 0 ty) (λ ν γ. gave-next 𝓤 H A mem run c (ν ∷ []) fullShare γ ts l₄ 0 ty W)
           (λ ν γ. (and-then ! (load ! (from ! (stop !)) (look ! 11 refl)) (and-then ! (load ! (from ! (stop !)) (look ! 2 refl)) (and-then ! (load ! (from ! (stop !)) (look ! 7 refl)) (no-more !))))) (λ gv. land ! (from ! (stop !)) (init ! 12 refl (LL.lawful TNumbered.the-type TNumbered′.the-laws 𝓤 H A W .typed out _ gv .0)) $
           whole ! TEntry.the-row 192 (LL.vals TEntry.the-type TEntry′.the-laws) (LL.tells TEntry.the-type TEntry′.the-laws) ts l₄ 0 (long gts) (λ gz. returns ! (look ! 12 refl) $
-          forget ! 1 refl $
-          forget ! 3 refl $
-          forget ! 0 refl $
-          forget ! 6 refl $
-          forget ! 8 refl $
-          forget ! 10 refl $
-          forget ! 12 refl $
-          move ! (12 ∷ 13 ∷ []) $
-          free1 ! $
-          move ! (10 ∷ 11 ∷ []) $
-          free1 ! $
-          move ! (8 ∷ 9 ∷ []) $
-          free1 ! $
-          move ! (6 ∷ 7 ∷ []) $
-          free1 ! $
-          move ! (0 ∷ 5 ∷ []) $
-          free1 ! $
-          move ! (2 ∷ 3 ∷ []) $
-          free1 ! $
-          move ! (0 ∷ 1 ∷ []) $
-          free1 ! $
-          free0 ! $
+          move ! (1 ∷ 2 ∷ 3 ∷ 4 ∷ 0 ∷ []) $
+          leaves ! refl $
           by ! (exits out refl gv)))
         where
           long : Is (Array TEntry.the-row 192) ts (only (array-vals (LL.vals TEntry.the-type TEntry′.the-laws) ts) ∷ []) → length ts ≡ 192

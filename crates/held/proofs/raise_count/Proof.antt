@@ -19,7 +19,7 @@ use contract.Monad.{Fun}
 use contract.Running.{givenOf, tables, tablesOf}
 use types.Kit.{Given, Item, ‵, ⋆, Sq, runs, atRet, _$_, _∵_, !, qed, by, move, keep, use1, rewrite, fjoin, suffices, frame, done}
 use types.Part.{agg}
-use types.Run.{look, init, forget, stop, from, load, lit, addr, of-opd, and-then, no-more, assigns, land, returns, enter, alloc1, alloc0, params1, pass1, pass0, free1, free0}
+use types.Run.{look, init, stop, from, load, lit, addr, of-opd, and-then, no-more, assigns, land, returns, enter, alloc1, alloc0, params1, pass1, pass0}
 use sound.WpLaws.{FmC, fmOf, WpFn-mono}
 use denote.RattleType.{owns}
 use denote.Laws.{Is}
@@ -40,6 +40,7 @@ use denote.Triple.Walked.{says, Stays, stay-none, walkOf, goes-none, Walks, ends
 use denote.Exit.{yes}
 use Rattle.streams.specs.Fits.{fits}
 use Rattle.streams.specs.Frames.{Call}
+use Rattle.receive.proofs.Leave.{leaves}
 use Rattle.receive.proofs.Lent.{calls-lent-shr}
 use Rattle.taking.specs.Local.{calledWhen}
 use Rattle.streams.specs.declared.Conn.{Conn}
@@ -116,31 +117,8 @@ module _ {M : Type 1} (𝓤 : URA M) (H : Heap 𝓤) (A : Atoms 𝓤) (W : Given
           calls-lent-shr ! fm (Count 𝓤 H A mem run) known-raise TEntry.the-row fullShare ts l₅ 0 (room gts) (named 0) (λ ν γ. to-raise 𝓤 H A mem run c (ν ∷ []) fullShare γ ts l₅ 0 ty new) (λ ν γ. goes-raise 𝓤 H A mem run c (ν ∷ []) fullShare γ ts l₅ 0 ty new W gc gty gnew) (LL.val TCalled.the-type TCalled′.the-laws out) (Did-raise 𝓤 H A mem run c [] fullShare 0 ts l₅ 0 ty new) (λ ν γ. gave-raise 𝓤 H A mem run c (ν ∷ []) fullShare γ ts l₅ 0 ty new W)
           (λ ν γ. (and-then ! (load ! (from ! (stop !)) (look ! 13 refl)) (and-then ! (load ! (from ! (stop !)) (look ! 2 refl)) (and-then ! (load ! (from ! (stop !)) (look ! 9 refl)) (and-then ! (load ! (from ! (stop !)) (look ! 7 refl)) (no-more !)))))) (λ gv. land ! (from ! (stop !)) (init ! 14 refl (LL.lawful TCalled.the-type TCalled′.the-laws 𝓤 H A W .typed out _ gv .0)) $
           whole ! TEntry.the-row 192 (LL.vals TEntry.the-type TEntry′.the-laws) (LL.tells TEntry.the-type TEntry′.the-laws) ts l₅ 0 (long gts) (λ gz. returns ! (look ! 14 refl) $
-          forget ! 1 refl $
-          forget ! 3 refl $
-          forget ! 0 refl $
-          forget ! 6 refl $
-          forget ! 8 refl $
-          forget ! 10 refl $
-          forget ! 12 refl $
-          forget ! 14 refl $
-          move ! (14 ∷ 15 ∷ []) $
-          free1 ! $
-          move ! (12 ∷ 13 ∷ []) $
-          free1 ! $
-          move ! (10 ∷ 11 ∷ []) $
-          free1 ! $
-          move ! (8 ∷ 9 ∷ []) $
-          free1 ! $
-          move ! (6 ∷ 7 ∷ []) $
-          free1 ! $
-          move ! (0 ∷ 5 ∷ []) $
-          free1 ! $
-          move ! (2 ∷ 3 ∷ []) $
-          free1 ! $
-          move ! (0 ∷ 1 ∷ []) $
-          free1 ! $
-          free0 ! $
+          move ! (1 ∷ 2 ∷ 3 ∷ 4 ∷ 0 ∷ []) $
+          leaves ! refl $
           by ! (exits out refl gv)))
         where
           long : Is (Array TEntry.the-row 192) ts (only (array-vals (LL.vals TEntry.the-type TEntry′.the-laws) ts) ∷ []) → length ts ≡ 192

@@ -18,7 +18,7 @@ use contract.Monad.{Fun}
 use contract.Running.{givenOf, tables, tablesOf}
 use types.Kit.{Given, Item, ‵, _⊛_, ⋆, Sq, runs, atRet, _$_, _∵_, !, qed, by, move, keep, drop, split, join, fsplit, fjoin, suffices, frame, done}
 use types.Part.{whole, sub, look-in, agg}
-use types.Run.{look, init, forget, stop, hop, fld, from, load, addr, of-opd, and-then, no-more, assigns, land, returns, enter, alloc1, alloc0, params1, pass1, pass0, free1, free0}
+use types.Run.{look, init, stop, hop, fld, from, load, addr, of-opd, and-then, no-more, assigns, land, returns, enter, alloc1, alloc0, params1, pass1, pass0}
 use sound.WpLaws.{FmC, fmOf, WpFn-mono}
 use denote.RattleType.{owns}
 use denote.Shadow.{pureI}
@@ -40,6 +40,7 @@ use denote.Triple.Table.{entered, cited}
 use denote.Triple.Walked.{says, Stays, stay-slice, stay-none, walkOf, goes-slice, goes-none, Walks, ends-at, walked, walk-meets}
 use denote.Exit.{yes}
 use Rattle.taking.specs.Local.{openingWhen, entriesOf}
+use Rattle.receive.proofs.Leave.{leaves}
 use Rattle.receive.specs.Table.{filledTo, openedTable}
 use Rattle.receive.proofs.Calls.{calls-plain}
 use Rattle.receive.proofs.Lent.{calls-lent-mut}
@@ -135,49 +136,7 @@ module _ {M : Type 1} (𝓤 : URA M) (H : Heap 𝓤) (A : Atoms 𝓤) (W : Given
           assigns ! (of-opd ! (load ! (from ! (stop !)) (look ! 14 refl))) (from ! (stop !)) (init ! 30 refl (EL.lawful TOpened.the-type TOpened′.the-laws 𝓤 H A W tt .typed out _ go .0)) $
           closes-slice ! tt TEntry.the-row ys zs₀ el b o $
           returns ! (look ! 29 refl) $
-          forget ! 3 refl $
-          forget ! 5 refl $
-          forget ! 7 refl $
-          forget ! 9 refl $
-          forget ! 11 refl $
-          forget ! 13 refl $
-          forget ! 15 refl $
-          forget ! 17 refl $
-          forget ! 19 refl $
-          forget ! 21 refl $
-          forget ! 23 refl $
-          forget ! 25 refl $
-          forget ! 27 refl $
-          forget ! 29 refl $
-          move ! (29 ∷ 30 ∷ []) $
-          free1 ! $
-          move ! (27 ∷ 28 ∷ []) $
-          free1 ! $
-          move ! (25 ∷ 26 ∷ []) $
-          free1 ! $
-          move ! (23 ∷ 24 ∷ []) $
-          free1 ! $
-          move ! (21 ∷ 22 ∷ []) $
-          free1 ! $
-          move ! (19 ∷ 20 ∷ []) $
-          free1 ! $
-          move ! (17 ∷ 18 ∷ []) $
-          free1 ! $
-          move ! (15 ∷ 16 ∷ []) $
-          free1 ! $
-          move ! (13 ∷ 14 ∷ []) $
-          free1 ! $
-          move ! (11 ∷ 12 ∷ []) $
-          free1 ! $
-          move ! (9 ∷ 10 ∷ []) $
-          free1 ! $
-          move ! (7 ∷ 8 ∷ []) $
-          free1 ! $
-          move ! (5 ∷ 6 ∷ []) $
-          free1 ! $
-          move ! (3 ∷ 4 ∷ []) $
-          free1 ! $
-          free0 ! $
+          leaves ! refl $
           by ! (exits out zs₀ el told go))))
 
     walk : ent 𝓤 (onEntry 𝓤 H A f.signature (κ, tt) (q, tt) x at) (WpFn 𝓤 H (𝓣 .C) (𝓣 .Λ) code.function (sliceVal (b, o) (length ys) ∷ vint w64 init0 ∷ vint w64 init1 ∷ vint w64 init2 ∷ vint w64 count0 ∷ vint w64 count2 ∷ vint w64 credit ∷ []) Post)

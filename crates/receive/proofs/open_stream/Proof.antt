@@ -19,7 +19,7 @@ use contract.Monad.{Fun}
 use contract.Running.{givenOf, tables, tablesOf}
 use types.Kit.{Given, Item, ‵, _⊛_, ⋆, Sq, runs, atRet, _$_, _∵_, !, qed, by, move, keep, drop, use1, split, join, fsplit, fjoin, suffices, frame, done}
 use types.Part.{whole}
-use types.Run.{look, init, forget, stop, from, load, and-then, no-more, land, returns, enter, alloc1, alloc0, params1, pass1, pass0, free1, free0}
+use types.Run.{look, init, stop, from, load, and-then, no-more, land, returns, enter, alloc1, alloc0, params1, pass1, pass0}
 use sound.WpLaws.{FmC, fmOf, WpFn-mono}
 use denote.RattleType.{owns}
 use denote.Laws.{Is}
@@ -38,6 +38,7 @@ use denote.Triple.Table.{entered, cited}
 use denote.Triple.Walked.{says, Stays, stay-none-slice, stay-none, walkOf, goes-none-slice, goes-none, Walks, ends-at, walked, walk-meets}
 use denote.Exit.{yes}
 use Rattle.streams.specs.Fits as whole
+use Rattle.receive.proofs.Leave.{leaves}
 use Rattle.receive.proofs.Calls.{calls-plain, calls-given}
 use Rattle.taking.specs.Local.{openedNextWhen}
 use Rattle.streams.specs.declared.Conn.{Conn}
@@ -124,22 +125,7 @@ module _ {M : Type 1} (𝓤 : URA M) (H : Heap 𝓤) (A : Atoms 𝓤) (W : Given
           calls-plain ! fm (OpenStream 𝓤 H A mem run) known-next (to-next 𝓤 H A mem run ok c ty) (goes-next 𝓤 H A mem run ok c ty W gc gty) (LL.val TNumbered.the-type TNumbered′.the-laws out) (Did-next 𝓤 H A mem run ok c ty) (gave-next 𝓤 H A mem run ok c ty W)
           (and-then ! (load ! (from ! (stop !)) (look ! 3 refl)) (and-then ! (load ! (from ! (stop !)) (look ! 9 refl)) (and-then ! (load ! (from ! (stop !)) (look ! 5 refl)) (no-more !)))) (λ gr. land ! (from ! (stop !)) (init ! 10 refl (LL.lawful TNumbered.the-type TNumbered′.the-laws 𝓤 H A W .typed out _ gr .0)) $
           returns ! (look ! 10 refl) $
-          forget ! 2 refl $
-          forget ! 4 refl $
-          forget ! 6 refl $
-          forget ! 8 refl $
-          forget ! 10 refl $
-          move ! (10 ∷ 11 ∷ []) $
-          free1 ! $
-          move ! (8 ∷ 9 ∷ []) $
-          free1 ! $
-          move ! (6 ∷ 7 ∷ []) $
-          free1 ! $
-          move ! (4 ∷ 5 ∷ []) $
-          free1 ! $
-          move ! (2 ∷ 3 ∷ []) $
-          free1 ! $
-          free0 ! $
+          leaves ! refl $
           by ! (exits out refl gr)))
 
     walk : ent 𝓤 (onEntry 𝓤 H A f.signature (κ, tt) (q, tt) x at) (WpFn 𝓤 H (𝓣 .C) (𝓣 .Λ) code.function (LL.val TConn.the-type TConn′.the-laws c ∷ sliceVal (b, o) (length ys) ∷ vint w64 ty ∷ []) Post)

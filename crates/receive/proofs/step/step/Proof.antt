@@ -19,7 +19,7 @@ use contract.Monad.{Fun}
 use contract.Running.{givenOf, tables, tablesOf}
 use types.Kit.{Given, Item, ‵, _⊛_, ⋆, Sq, runs, atRet, _$_, _∵_, !, qed, by, move, keep, drop, use1, split, join, rewrite, fsplit, fjoin, suffices, frame, done}
 use types.Part.{whole, sub, look-in}
-use types.Run.{look, look-raw, store, store-raw, init, forget, stop, hop, fld, from, load, lit, of-opd, bin, and-then, no-more, assigns, land, returns, enter, alloc1, alloc0, params1, pass1, pass0, free1, free0}
+use types.Run.{look, look-raw, store, store-raw, init, stop, hop, fld, from, load, lit, of-opd, bin, and-then, no-more, assigns, land, returns, enter, alloc1, alloc0, params1, pass1, pass0}
 use sound.WpLaws.{FmC, fmOf, WpFn-mono}
 use denote.RattleType.{owns}
 use denote.Shadow.{pureI}
@@ -43,6 +43,7 @@ use denote.Triple.Walked.{says, needs, Stays, stay-slice, stay-none-slice, stay-
 use denote.Exit.{yes}
 use Rattle.streams.specs.Entry.{fresh, entryAt}
 use Rattle.taking.specs.Step.{askedAt, turnOf}
+use Rattle.receive.proofs.Leave.{leaves}
 use Rattle.receive.specs.Walk.{turnAt, steppedAt, stepTable}
 use Rattle.receive.proofs.Calls.{calls-plain, calls-given}
 use Rattle.receive.proofs.Steps.{place-low}
@@ -171,46 +172,7 @@ module _ {M : Type 1} (𝓤 : URA M) (H : Heap 𝓤) (A : Atoms 𝓤) (W : Given
           move ! (0 ∷ 3 ∷ 4 ∷ 5 ∷ []) $
           closes-slice ! tt TEntry.the-row ys zs₀ (length-set ys i₀ (new .entry)) b o $
           returns ! (look ! 29 refl) $
-          forget ! 5 refl $
-          forget ! 7 refl $
-          forget ! 9 refl $
-          forget ! 11 refl $
-          forget ! 13 refl $
-          forget ! 15 refl $
-          forget ! 17 refl $
-          forget ! 19 refl $
-          forget ! 21 refl $
-          forget ! 23 refl $
-          forget ! 25 refl $
-          forget ! 27 refl $
-          forget ! 29 refl $
-          move ! (29 ∷ 30 ∷ []) $
-          free1 ! $
-          move ! (27 ∷ 28 ∷ []) $
-          free1 ! $
-          move ! (25 ∷ 26 ∷ []) $
-          free1 ! $
-          move ! (23 ∷ 24 ∷ []) $
-          free1 ! $
-          move ! (21 ∷ 22 ∷ []) $
-          free1 ! $
-          move ! (19 ∷ 20 ∷ []) $
-          free1 ! $
-          move ! (17 ∷ 18 ∷ []) $
-          free1 ! $
-          move ! (15 ∷ 16 ∷ []) $
-          free1 ! $
-          move ! (13 ∷ 14 ∷ []) $
-          free1 ! $
-          move ! (11 ∷ 12 ∷ []) $
-          free1 ! $
-          move ! (9 ∷ 10 ∷ []) $
-          free1 ! $
-          move ! (7 ∷ 8 ∷ []) $
-          free1 ! $
-          move ! (5 ∷ 6 ∷ []) $
-          free1 ! $
-          free0 ! $
+          leaves ! refl $
           by ! (exits (new .stepped) zs₀ (length-set ys i₀ (new .entry)) told (gs gj)))))
         where
           bytes : i₀ * 24 < 2 ^ 64

@@ -21,7 +21,7 @@ use contract.Monad.{Fun}
 use contract.Running.{givenOf, tables, tablesOf}
 use types.Kit.{Given, Item, ‵, _⊛_, ⋆, Sq, runs, atRet, anyQ, _$_, _∵_, !, qed, by, move, keep, drop, use1, split, join, rewrite, fsplit, fjoin, suffices, frame, done}
 use types.Part.{whole, sub, look-in, agg}
-use types.Run.{look, store, init, forget, stop, hop, fld, from, load, lit, addr, of-opd, bin, un, and-then, no-more, assigns, assigns-last, first, land, returns, enter, alloc1, alloc0, params1, pass1, pass0, free1, free0, exec}
+use types.Run.{look, store, init, forget, stop, hop, fld, from, load, lit, addr, of-opd, bin, un, and-then, no-more, assigns, assigns-last, first, land, returns, enter, alloc1, alloc0, params1, pass1, pass0, exec}
 use sound.WpLaws.{FmC, fmOf, WpFn-mono}
 use denote.RattleType.{owns}
 use denote.Shadow.{pureI}
@@ -51,6 +51,7 @@ use lib.Dec.{leb, nleb→lt}
 use Rattle.answers.specs.declared.Answer.the-variants.{Accepted}
 use Rattle.streams.specs.Conn.{isOpen}
 use Rattle.taking.specs.Past.{pastPadding}
+use Rattle.receive.proofs.Leave.{leaves}
 use Rattle.receive.specs.Walk.{steppedAt, stepTable, stopped, walkFrom, walkAll, Ready, stoppedOf, walkTable}
 use Rattle.receive.proofs.Calls.{calls-given}
 use Rattle.receive.proofs.Cases.{holds, fails, not-not, splits}
@@ -257,49 +258,7 @@ module _ {M : Type 1} (𝓤 : URA M) (H : Heap 𝓤) (A : Atoms 𝓤) (W : Given
           assigns ! (of-opd ! (load ! (from ! (stop !)) (look ! 15 refl))) (from ! (stop !)) (init ! 19 refl (LL.lawful TStop.the-type TStop′.the-laws 𝓤 H A W .typed h _ gh .0)) $
           assigns ! (agg ! (and-then ! (load ! (from ! (stop !)) (look ! 23 refl)) (and-then ! (load ! (from ! (fld ! refl (stop !))) (look-in ! 19 (sub ! 0 refl (whole !)))) (and-then ! (load ! (from ! (fld ! refl (stop !))) (look-in ! 19 (sub ! 1 refl (whole !)))) (no-more !))))) (from ! (stop !)) (init ! 35 refl (LL.lawful TStopped.the-type TStopped′.the-laws 𝓤 H A W .typed (ended d h) _ is-ended .0)) $
           returns ! (look ! 35 refl) $
-          forget ! 15 refl $
-          forget ! 19 refl $
-          forget ! 21 refl $
-          forget ! 23 refl $
-          forget ! 25 refl $
-          forget ! 27 refl $
-          forget ! 29 refl $
-          forget ! 31 refl $
-          forget ! 33 refl $
-          forget ! 35 refl $
-          move ! (35 ∷ 36 ∷ []) $
-          free1 ! $
-          move ! (33 ∷ 34 ∷ []) $
-          free1 ! $
-          move ! (31 ∷ 32 ∷ []) $
-          free1 ! $
-          move ! (29 ∷ 30 ∷ []) $
-          free1 ! $
-          move ! (27 ∷ 28 ∷ []) $
-          free1 ! $
-          move ! (25 ∷ 26 ∷ []) $
-          free1 ! $
-          move ! (23 ∷ 24 ∷ []) $
-          free1 ! $
-          move ! (21 ∷ 22 ∷ []) $
-          free1 ! $
-          move ! (19 ∷ 20 ∷ []) $
-          free1 ! $
-          move ! (17 ∷ 18 ∷ []) $
-          free1 ! $
-          move ! (15 ∷ 16 ∷ []) $
-          free1 ! $
-          move ! (13 ∷ 14 ∷ []) $
-          free1 ! $
-          move ! (11 ∷ 12 ∷ []) $
-          free1 ! $
-          move ! (9 ∷ 10 ∷ []) $
-          free1 ! $
-          move ! (7 ∷ 8 ∷ []) $
-          free1 ! $
-          move ! (5 ∷ 6 ∷ []) $
-          free1 ! $
-          free0 ! $
+          leaves ! refl $
           by ! (exits (ended d h) zs el said is-ended)
         where
           is-ended : Is TStopped.the-row (ended d h) (LL.val TStopped.the-type TStopped′.the-laws (ended d h) ∷ [])

@@ -21,7 +21,7 @@ use contract.Monad.{Fun}
 use contract.Running.{givenOf, tables, tablesOf}
 use types.Kit.{Given, Item, ‵, _⊛_, ⋆, Sq, runs, atRet, anyQ, _$_, _∵_, !, qed, by, move, keep, drop, split, join, rewrite, fsplit, fjoin, feqI, suffices, frame, done}
 use types.Part.{whole, sub, look-in}
-use types.Run.{look, store, store-raw, init, forget, stop, hop, fld, from, load, lit, unit-lit, of-opd, bin, and-then, no-more, assigns, assigns-last, first, land, returns, enter, alloc1, alloc0, params1, pass1, pass0, free1, free0, exec}
+use types.Run.{look, store, store-raw, init, forget, stop, hop, fld, from, load, lit, unit-lit, of-opd, bin, and-then, no-more, assigns, assigns-last, first, land, returns, enter, alloc1, alloc0, params1, pass1, pass0, exec}
 use sound.WpLaws.{FmC, fmOf, WpFn-mono}
 use denote.RattleType.{owns}
 use denote.Shadow.{pureI}
@@ -51,6 +51,7 @@ use native.Mathlib.Numerals.{add-one}
 use lib.Dec.{ltb, ltb→lt, nltb→le}
 use Rattle.streams.specs.Entry.{fresh}
 use Rattle.taking.specs.Local.{initialOf}
+use Rattle.receive.proofs.Leave.{leaves}
 use Rattle.receive.specs.Table.{filledTo}
 use Rattle.receive.proofs.Calls.{calls-plain}
 use Rattle.receive.proofs.Cases.{cases, is-true, is-false}
@@ -198,37 +199,7 @@ module _ {M : Type 1} (𝓤 : URA M) (H : Heap 𝓤) (A : Atoms 𝓤) (W : Given
           closes-slice ! tt TEntry.the-row ys (s .zs) (s .len) b o $
           assigns ! (of-opd ! (unit-lit !)) (from ! (stop !)) (init ! 23 refl (tt, tt)) $
           returns ! (look ! 23 refl) $
-          forget ! 9 refl $
-          forget ! 11 refl $
-          forget ! 13 refl $
-          forget ! 15 refl $
-          forget ! 17 refl $
-          forget ! 19 refl $
-          forget ! 21 refl $
-          forget ! 23 refl $
-          move ! (23 ∷ 24 ∷ []) $
-          free1 ! $
-          move ! (21 ∷ 22 ∷ []) $
-          free1 ! $
-          move ! (19 ∷ 20 ∷ []) $
-          free1 ! $
-          move ! (17 ∷ 18 ∷ []) $
-          free1 ! $
-          move ! (15 ∷ 16 ∷ []) $
-          free1 ! $
-          move ! (13 ∷ 14 ∷ []) $
-          free1 ! $
-          move ! (11 ∷ 12 ∷ []) $
-          free1 ! $
-          move ! (9 ∷ 10 ∷ []) $
-          free1 ! $
-          move ! (7 ∷ 8 ∷ []) $
-          free1 ! $
-          move ! (5 ∷ 6 ∷ []) $
-          free1 ! $
-          move ! (3 ∷ 4 ∷ []) $
-          free1 ! $
-          free0 ! $
+          leaves ! refl $
           by ! (exits ((s .zs)) (s .len) (found s (nltb→le _ _ (is-false _ e))))
 
       turns : (s : St) → Sq W (At s) (runs C Λ En mir.turn-1 (anyQ (Turned s)))

@@ -21,7 +21,7 @@ use contract.Monad.{Fun}
 use contract.Running.{givenOf, tables, tablesOf}
 use types.Kit.{Given, Item, ‵, _⊛_, ⋆, Sq, runs, atRet, _$_, _∵_, !, qed, by, move, keep, drop, use1, split, join, fsplit, fjoin, suffices, frame, done}
 use types.Part.{whole, sub, look-in, agg}
-use types.Run.{look, init, forget, stop, fld, from, load, lit, false-lit, of-opd, bin, and-then, no-more, assigns, first, skips, branches, land, returns, returns-within, enter, alloc1, alloc0, params1, pass1, pass0, free1, free0, exec}
+use types.Run.{look, init, stop, fld, from, load, lit, false-lit, of-opd, bin, and-then, no-more, assigns, first, skips, branches, land, returns, returns-within, enter, alloc1, alloc0, params1, pass1, pass0, exec}
 use sound.WpLaws.{FmC, fmOf, WpFn-mono}
 use denote.RattleType.{owns}
 use denote.Laws.{Is}
@@ -44,6 +44,7 @@ use lib.Dec.{eqb}
 use borrow.Author.Tests.{eqb-true}
 use Rattle.streams.specs.declared.Summed.the-variants.{To}
 use Rattle.streams.specs.Fits.{fits, concludedOf}
+use Rattle.receive.proofs.Leave.{leaves}
 use Rattle.receive.proofs.Calls.{calls-plain, calls-given}
 use Rattle.receive.proofs.Cases.{fails, not-not}
 use Rattle.receive.proofs.Tables.{first as first₀, second as second₀, third as third₀, whole-fits, short-unfit}
@@ -133,30 +134,7 @@ module _ {M : Type 1} (𝓤 : URA M) (H : Heap 𝓤) (A : Atoms 𝓤) (W : Given
           first ! $ branches ! (load ! (from ! (stop !)) (look ! 4 refl))
           (λ bad. assigns ! (of-opd ! (false-lit !)) (from ! (stop !)) (init ! 18 refl (tt, tt)) $
           returns-within ! Post refl (look ! 18 refl) $
-          forget ! 4 refl $
-          forget ! 6 refl $
-          forget ! 14 refl $
-          forget ! 16 refl $
-          forget ! 18 refl $
-          move ! (18 ∷ 19 ∷ []) $
-          free1 ! $
-          move ! (16 ∷ 17 ∷ []) $
-          free1 ! $
-          move ! (14 ∷ 15 ∷ []) $
-          free1 ! $
-          move ! (12 ∷ 13 ∷ []) $
-          free1 ! $
-          move ! (10 ∷ 11 ∷ []) $
-          free1 ! $
-          move ! (8 ∷ 9 ∷ []) $
-          free1 ! $
-          move ! (6 ∷ 7 ∷ []) $
-          free1 ! $
-          move ! (4 ∷ 5 ∷ []) $
-          free1 ! $
-          move ! (2 ∷ 3 ∷ []) $
-          free1 ! $
-          free0 ! $
+          leaves ! refl $
           by ! (exits false (short-unfit c ys (fails _ bad))))
           (λ good. skips ! $
           exec ! C Λ En mir.t-4 (atRet En Post) $
@@ -185,34 +163,7 @@ module _ {M : Type 1} (𝓤 : URA M) (H : Heap 𝓤) (A : Atoms 𝓤) (W : Given
           calls-plain ! fm (Conclude 𝓤 H A mem run) known-conclude (to-conclude 𝓤 H A mem run c s₃) (goes-conclude 𝓤 H A mem run c s₃ W gc g₃) (vbool (concludedOf c s₃)) (Did-conclude 𝓤 H A mem run c s₃) (gave-conclude 𝓤 H A mem run c s₃ W)
           (and-then ! (load ! (from ! (stop !)) (look ! 17 refl)) (and-then ! (load ! (from ! (stop !)) (look ! 9 refl)) (no-more !))) (λ gr. land ! (from ! (stop !)) (init ! 18 refl (tt, tt)) $
           returns ! (look ! 18 refl) $
-          forget ! 2 refl $
-          forget ! 4 refl $
-          forget ! 6 refl $
-          forget ! 8 refl $
-          forget ! 10 refl $
-          forget ! 12 refl $
-          forget ! 14 refl $
-          forget ! 16 refl $
-          forget ! 18 refl $
-          move ! (18 ∷ 19 ∷ []) $
-          free1 ! $
-          move ! (16 ∷ 17 ∷ []) $
-          free1 ! $
-          move ! (14 ∷ 15 ∷ []) $
-          free1 ! $
-          move ! (12 ∷ 13 ∷ []) $
-          free1 ! $
-          move ! (10 ∷ 11 ∷ []) $
-          free1 ! $
-          move ! (8 ∷ 9 ∷ []) $
-          free1 ! $
-          move ! (6 ∷ 7 ∷ []) $
-          free1 ! $
-          move ! (4 ∷ 5 ∷ []) $
-          free1 ! $
-          move ! (2 ∷ 3 ∷ []) $
-          free1 ! $
-          free0 ! $
+          leaves ! refl $
           by ! (exits (concludedOf c s₃) (whole-fits c ys (full good))))))))
         where
           full : T (not (not (eqb (length ys) 192))) → length ys ≡ 192

@@ -21,7 +21,7 @@ use contract.Monad.{Fun}
 use contract.Running.{givenOf, tables, tablesOf}
 use types.Kit.{Given, Item, ‵, _⊛_, ⋆, Sq, runs, atRet, anyQ, _$_, _∵_, !, qed, by, move, keep, drop, use1, split, join, rewrite, fsplit, fjoin, suffices, frame, done}
 use types.Part.{whole, sub, look-in}
-use types.Run.{look, look-raw, store, init, forget, stop, hop, fld, from, load, lit, of-opd, bin, and-then, no-more, assigns, assigns-last, first, land, returns, enter, alloc1, alloc0, params1, pass1, pass0, free1, free0, exec}
+use types.Run.{look, look-raw, store, init, forget, stop, hop, fld, from, load, lit, of-opd, bin, and-then, no-more, assigns, assigns-last, first, land, returns, enter, alloc1, alloc0, params1, pass1, pass0, exec}
 use sound.WpLaws.{FmC, fmOf, WpFn-mono}
 use denote.RattleType.{owns}
 use denote.Laws.{Is, shows}
@@ -53,6 +53,7 @@ use denote.Memory.{shares}
 use Rattle.streams.specs.Entry.{fresh, entryAt}
 use Rattle.streams.specs.Fits.{summedOf}
 use Rattle.limits.specs.Rest.{openedIn, restOf}
+use Rattle.receive.proofs.Leave.{leaves}
 use Rattle.receive.specs.Table.{summedTo, untouchedTo}
 use Rattle.receive.proofs.Rest.{opened-within, by-rest}
 use Rattle.receive.proofs.Calls.{calls-plain, calls-given}
@@ -251,52 +252,7 @@ module _ {M : Type 1} (𝓤 : URA M) (H : Heap 𝓤) (A : Atoms 𝓤) (W : Given
           calls-plain ! fm (WithRest 𝓤 H A mem run) known-all (to-all 𝓤 H A mem run credit (s .n) initial (s .sum) (same s)) (goes-all 𝓤 H A mem run credit (s .n) initial (s .sum) (same s) W gcredit (ordinal s) ginitial (s .is)) (EL.val TSummed.the-type TSummed′.the-laws (all s)) (Did-all 𝓤 H A mem run credit (s .n) initial (s .sum) (same s)) (gave-all 𝓤 H A mem run credit (s .n) initial (s .sum) (same s) W)
           (and-then ! (load ! (from ! (stop !)) (look ! 27 refl)) (and-then ! (load ! (from ! (stop !)) (look ! 15 refl)) (and-then ! (load ! (from ! (stop !)) (look ! 23 refl)) (and-then ! (load ! (from ! (stop !)) (look ! 17 refl)) (and-then ! (load ! (from ! (stop !)) (look ! 11 refl)) (no-more !)))))) (λ gr. land ! (from ! (stop !)) (init ! 32 refl (EL.lawful TSummed.the-type TSummed′.the-laws 𝓤 H A W tt .typed (all s) _ gr .0)) $
           returns ! (look ! 32 refl) $
-          forget ! 8 refl $
-          forget ! 10 refl $
-          forget ! 12 refl $
-          forget ! 14 refl $
-          forget ! 16 refl $
-          forget ! 18 refl $
-          forget ! 20 refl $
-          forget ! 22 refl $
-          forget ! 24 refl $
-          forget ! 26 refl $
-          forget ! 28 refl $
-          forget ! 30 refl $
-          forget ! 32 refl $
-          move ! (32 ∷ 33 ∷ []) $
-          free1 ! $
-          move ! (30 ∷ 31 ∷ []) $
-          free1 ! $
-          move ! (28 ∷ 29 ∷ []) $
-          free1 ! $
-          move ! (26 ∷ 27 ∷ []) $
-          free1 ! $
-          move ! (24 ∷ 25 ∷ []) $
-          free1 ! $
-          move ! (22 ∷ 23 ∷ []) $
-          free1 ! $
-          move ! (20 ∷ 21 ∷ []) $
-          free1 ! $
-          move ! (18 ∷ 19 ∷ []) $
-          free1 ! $
-          move ! (16 ∷ 17 ∷ []) $
-          free1 ! $
-          move ! (14 ∷ 15 ∷ []) $
-          free1 ! $
-          move ! (12 ∷ 13 ∷ []) $
-          free1 ! $
-          move ! (10 ∷ 11 ∷ []) $
-          free1 ! $
-          move ! (8 ∷ 9 ∷ []) $
-          free1 ! $
-          move ! (6 ∷ 7 ∷ []) $
-          free1 ! $
-          move ! (4 ∷ 5 ∷ []) $
-          free1 ! $
-          move ! (2 ∷ 3 ∷ []) $
-          free1 ! $
-          free0 ! $
+          leaves ! refl $
           by ! (exits (all s) (found s (nltb→le _ _ (is-false _ e))) gr)))
 
       turns : (s : St) → Sq W (At s) (runs C Λ En mir.turn-1 (anyQ (Turned s)))

@@ -20,7 +20,7 @@ use contract.Monad.{Fun}
 use contract.Running.{givenOf, tables, tablesOf}
 use types.Kit.{Given, Item, ‵, _⊛_, ⋆, Sq, runs, atRet, anyQ, _$_, _∵_, !, qed, by, move, keep, drop, use1, split, join, rewrite, fsplit, fjoin, suffices, frame, done}
 use types.Part.{whole, sub, look-in}
-use types.Run.{look, look-raw, store, init, forget, stop, hop, fld, from, load, lit, true-lit, of-opd, bin, and-then, no-more, assigns, assigns-last, first, land, returns, enter, alloc1, alloc0, params1, pass1, pass0, free1, free0, exec}
+use types.Run.{look, look-raw, store, init, forget, stop, hop, fld, from, load, lit, true-lit, of-opd, bin, and-then, no-more, assigns, assigns-last, first, land, returns, enter, alloc1, alloc0, params1, pass1, pass0, exec}
 use sound.WpLaws.{FmC, fmOf, WpFn-mono}
 use denote.RattleType.{owns}
 use denote.Laws.{Is, shows}
@@ -51,6 +51,7 @@ use denote.Memory.{shares}
 use mathlib.Core.Bool.{_&&_}
 use Rattle.streams.specs.Entry.{fresh, entryAt}
 use Rattle.streams.specs.Fits.{isFresh}
+use Rattle.receive.proofs.Leave.{leaves}
 use Rattle.receive.specs.Table.{untouchedTo}
 use Rattle.receive.proofs.Calls.{calls-plain}
 use Rattle.receive.proofs.Cases.{cases, is-true, is-false}
@@ -201,40 +202,7 @@ module _ {M : Type 1} (𝓤 : URA M) (H : Heap 𝓤) (A : Atoms 𝓤) (W : Given
           shuts-slice ! tt TEntry.the-row q′ ys b o $
           assigns ! (of-opd ! (load ! (from ! (stop !)) (look ! 14 refl))) (from ! (stop !)) (init ! 24 refl (tt, tt)) $
           returns ! (look ! 24 refl) $
-          forget ! 8 refl $
-          forget ! 10 refl $
-          forget ! 12 refl $
-          forget ! 14 refl $
-          forget ! 16 refl $
-          forget ! 18 refl $
-          forget ! 20 refl $
-          forget ! 22 refl $
-          forget ! 24 refl $
-          move ! (24 ∷ 25 ∷ []) $
-          free1 ! $
-          move ! (22 ∷ 23 ∷ []) $
-          free1 ! $
-          move ! (20 ∷ 21 ∷ []) $
-          free1 ! $
-          move ! (18 ∷ 19 ∷ []) $
-          free1 ! $
-          move ! (16 ∷ 17 ∷ []) $
-          free1 ! $
-          move ! (14 ∷ 15 ∷ []) $
-          free1 ! $
-          move ! (12 ∷ 13 ∷ []) $
-          free1 ! $
-          move ! (10 ∷ 11 ∷ []) $
-          free1 ! $
-          move ! (8 ∷ 9 ∷ []) $
-          free1 ! $
-          move ! (6 ∷ 7 ∷ []) $
-          free1 ! $
-          move ! (4 ∷ 5 ∷ []) $
-          free1 ! $
-          move ! (2 ∷ 3 ∷ []) $
-          free1 ! $
-          free0 ! $
+          leaves ! refl $
           by ! (exits (s .same) (found s (nltb→le _ _ (is-false _ e))))
 
       turns : (s : St) → Sq W (At s) (runs C Λ En mir.turn-1 (anyQ (Turned s)))
