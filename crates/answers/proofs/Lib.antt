@@ -1,3 +1,5 @@
 pub mod Choice
+pub mod Distinct
+pub mod Firm
 pub mod Numbers
 pub mod Unique
