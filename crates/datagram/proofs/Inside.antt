@@ -10,6 +10,7 @@ use lib.Dec.{ltb, eqb}
 use lib.ListN.{length}
 use Rattle.answers.specs.declared.Answer.the-variants.{Done}
 use Rattle.answers.proofs.Choice.{holds, below-or-not}
+use Rattle.answers.proofs.Distinct.{impossible}
 use Rattle.wire.specs.Number.{numberAt}
 use Rattle.wire.proofs.Sound.{sound}
 use Rattle.datagram.specs.declared.Kind.{Kind}
@@ -104,7 +105,7 @@ module _ (s : List ℕ) where
   pub inside : {h : Header} → nextOf s ≡ Packet h → Inside s h
   inside {h} e =
       below-or-not 0 (length s) (λ k. opened (subst (Fine s) e (fine k)))
-      (λ k. let d = done (omega arith) in let z : _≡_ {A = ℕ} 0 1 = cc in absurd (omega arith))
+      (λ k. let d = done (omega arith) in impossible cc)
     where
       opened : {h : Header} → Fine s (Packet h) → Inside s h
       opened (packet h i) = i

@@ -11,6 +11,7 @@ use lib.ListN.{length, getD}
 use Rattle.answers.specs.declared.Answer.{Answer}
 use Rattle.answers.specs.declared.Answer.the-variants.{FrameEncoding, ProtocolViolation}
 use Rattle.answers.proofs.Choice.{holds}
+use Rattle.answers.proofs.Distinct.{impossible}
 use Rattle.wire.specs.Number.{numberAt, shortest}
 use Rattle.wire.specs.declared.Number.the-variants.{Is}
 use Rattle.wire.proofs.Sound as number
@@ -106,7 +107,7 @@ pub any-got : (s : List ℕ) (at : ℕ) {f : Frame} {ty n : ℕ} → anyFrameAt 
 unfolding anyFrameAt
 any-got s at {f} {ty} {n} =
     with-head (λ (r : Reading). r ≡ Got f ty n → Parted s at f ty n) (headAt s at) (λ t next. fieldsAt s next t)
-    (λ answer t h e. let z : _≡_ {A = ℕ} 0 1 = cc in absurd (omega arith)) (parted s at f ty n)
+    (λ answer t h e. impossible cc) (parted s at f ty n)
 
 -- a frame that was read in a packet of a kind was admitted there, and is read alike in any
 module _ (s : List ℕ) (at : ℕ) (kind : Kind) (f : Frame) (ty n : ℕ) where
@@ -114,7 +115,7 @@ module _ (s : List ℕ) (at : ℕ) (kind : Kind) (f : Frame) (ty n : ℕ) where
   IfRead r = r ≡ Got f ty n → (admitted kind ty ≡ true) × (anyFrameAt s at ≡ Got f ty n)
 
   none : (answer : Answer) (t : ℕ) → IfRead (Refused answer t)
-  none answer t e = let z : _≡_ {A = ℕ} 0 1 = cc in absurd (omega arith)
+  none answer t e = impossible cc
 
   all-admitted : IfRead (frameAt s at kind)
   unfolding frameAt anyFrameAt

@@ -9,6 +9,7 @@ use borrow.Author.Tests.{lt-ltb, le-ltb, ltb-true, ltb-false, leb-true, leb-fals
 use lib.Dec.{ltb, leb}
 use lib.IntN.{ℤ, pos, negsuc, _-ℤ_}
 use Rattle.answers.proofs.Choice.{holds}
+use Rattle.answers.proofs.Distinct.{impossible}
 use Rattle.numbers.specs.declared.Size.{Size}
 use Rattle.numbers.specs.declared.Size.the-variants.{One, Two, Three, Four}
 use Rattle.numbers.specs.declared.Recovered.{Recovered}
@@ -52,7 +53,7 @@ sound E t size {n} =
     holds (λ (r : Recovered). r ≡ Recovered'.Is n → Sound size t n) (ltb (nearestOf E W t) (2 ^ 62)) _ _ (λ l e.
     let m : nearestOf E W t ≡ n = cc in
     rw (← m) (record { low = ltb-true (nearestOf E W t) (2 ^ 62) l; agrees = nearest-agrees E W t })) (λ l e.
-    let z : _≡_ {A = ℕ} 0 1 = cc in absurd (omega arith))
+    impossible cc)
 
 -- what is above a power of 256 is above all lower ones
 lower : (k x : ℕ) → 256 ^ k < x → (n : ℕ) → n < suc k → 256 ^ n < x
@@ -78,7 +79,7 @@ module _ (pn next : ℕ) (acked : ℤ) (distance : next ≤ pn → pos pn -ℤ a
       Given r = r ≡ Length'.Is size → Enough pn acked size
 
       never : Given none
-      never e = let z : _≡_ {A = ℕ} 0 1 = cc in absurd (omega arith)
+      never e = impossible cc
 
       one-is : (s : Size) → Enough pn acked s → Given (Length'.Is s)
       one-is s g e = let q : s ≡ size = cc in subst (Enough pn acked) q g
@@ -89,4 +90,4 @@ unfolding lengthOf
 enough pn (pos zero) = enough-after pn 1 (pos 0) (λ b. ap pos (omega arith))
 enough pn (pos (suc a)) = enough-after pn (suc a + 1) (pos (suc a)) (λ b. rw (le-ltb pn (suc a) (omega arith)) (ap pos (omega arith)))
 enough pn (negsuc zero) = enough-after pn 0 (negsuc 0) (λ b. ap pos (omega arith))
-enough pn (negsuc (suc k)) = λ e. let z : _≡_ {A = ℕ} 0 1 = cc in absurd (omega arith)
+enough pn (negsuc (suc k)) = λ e. impossible cc

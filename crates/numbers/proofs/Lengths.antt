@@ -11,6 +11,7 @@ use lib.Signed.{ltZ, nonNeg}
 use mir.Syntax.{w64}
 use mir.Val.{SFits, toZ, ofZ}
 use mir.Facts.{toZ-ofZ}
+use Rattle.answers.proofs.Distinct.{impossible}
 use Rattle.numbers.specs.declared.Size.the-variants.{One, Two, Three, Four}
 use Rattle.numbers.specs.declared.Length.the-variants.{Is}
 use Rattle.numbers.specs.Numbers.{none, twiceOf, lengthAfter, lengthOf}
@@ -61,8 +62,8 @@ below-minus-one pn (negsuc (suc k)) e f = refl
 pub from-zero : (pn : ℕ) (z : ℤ) → ltZ z (pos zero) ≡ false → lengthOf pn z ≡ lengthAfter pn (natAbs z + 1)
 unfolding lengthOf
 from-zero pn (pos a) e = refl
-from-zero pn (negsuc k) e = let z : _≡_ {A = ℕ} 0 1 = cc in absurd (omega arith)
+from-zero pn (negsuc k) e = impossible cc
 
 pub natural : (z : ℤ) → SFits w64 z → ltZ z (pos zero) ≡ false → T (nonNeg z) × (natAbs z < 2 ^ 63)
 natural (pos a) s e = (tt, s .sfits)
-natural (negsuc k) s e = let z : _≡_ {A = ℕ} 0 1 = cc in absurd (omega arith)
+natural (negsuc k) s e = impossible cc

@@ -11,6 +11,7 @@ use borrow.Author.Tests.{leb-true, le-leb, lt-leb}
 use lib.Dec.{leb}
 use lib.ListN.{length, getD}
 use Rattle.answers.proofs.Choice.{below-or-not}
+use Rattle.answers.proofs.Distinct.{impossible}
 use Rattle.wire.specs.Number.{numberAt, formAt, valuesIn, sizeOf, withNumber, Stands}
 use Rattle.wire.specs.declared.Number.{Number}
 use Rattle.wire.specs.declared.Number.the-variants.{Is, CutShort}
@@ -74,15 +75,15 @@ fits-read s k at low = rw (fits-ranges s k at low) (go (rangesAt s k at low))
   where
     go : (r : Ranges) → withRanges r false (λ n. true) ≡ true → (n : ℕ) × (r ≡ To n)
     go (To n) e = (n, refl)
-    go Broken e = let z : _≡_ {A = ℕ} 0 1 = cc in absurd (omega arith)
+    go Broken e = impossible cc
 
 -- numbers that fit are two for each range
 pub fits-length : (low k : ℕ) (l : List ℕ) → fits low k l ≡ true → length l ≡ 2 * k
 unfolding fits
 fits-length low zero [] e = refl
-fits-length low zero (v ∷ l) e = let z : _≡_ {A = ℕ} 0 1 = cc in absurd (omega arith)
-fits-length low (suc k) [] e = let z : _≡_ {A = ℕ} 0 1 = cc in absurd (omega arith)
-fits-length low (suc k) (gap ∷ []) e = let z : _≡_ {A = ℕ} 0 1 = cc in absurd (omega arith)
+fits-length low zero (v ∷ l) e = impossible cc
+fits-length low (suc k) [] e = impossible cc
+fits-length low (suc k) (gap ∷ []) e = impossible cc
 fits-length low (suc k) (gap ∷ len ∷ l) e =
     let b = and-eq-true-iff (leb (gap + 2 + len) low) (fits (low - (gap + 2 + len)) k l) .0 e in
     omega (arith, fits-length (low - (gap + 2 + len)) k l (b .1))
@@ -92,9 +93,9 @@ pub back : (out : List ℕ) (k at low : ℕ) (l : List ℕ) → fits low k l ≡
     → (rangesAt out k at low ≡ To (at + sizeAll l)) × (listed out at (2 * k) ≡ l)
 unfolding fits listed rangesAt rangeAt sizeAll
 back out zero at low [] e r st = (rw add-zero, refl)
-back out zero at low (v ∷ l) e r st = let z : _≡_ {A = ℕ} 0 1 = cc in absurd (omega arith)
-back out (suc k) at low [] e r st = let z : _≡_ {A = ℕ} 0 1 = cc in absurd (omega arith)
-back out (suc k) at low (gap ∷ []) e r st = let z : _≡_ {A = ℕ} 0 1 = cc in absurd (omega arith)
+back out zero at low (v ∷ l) e r st = impossible cc
+back out (suc k) at low [] e r st = impossible cc
+back out (suc k) at low (gap ∷ []) e r st = impossible cc
 back out (suc k) at low (gap ∷ len ∷ l) e r st =
     let b = and-eq-true-iff (leb (gap + 2 + len) low) (fits (low - (gap + 2 + len)) k l) .0 e in
     let h : gap + 2 + len ≤ low = leb-true (gap + 2 + len) low (b .0) in

@@ -8,6 +8,7 @@ use borrow.Author.Tests.{ltb-false, eq-eqb, ne-eqb}
 use lib.Dec.{ltb}
 use lib.ListN.{length}
 use Rattle.answers.proofs.Choice.{holds}
+use Rattle.answers.proofs.Distinct.{impossible}
 use Rattle.wire.specs.Number.{numberAt}
 use Rattle.wire.specs.declared.Number.the-variants.{Is}
 use Rattle.wire.proofs.Sound as number
@@ -33,7 +34,7 @@ module _ (s : List ℕ) (k at low n : ℕ) where
   IfRead r = withRange r Broken (λ high least next. rangesAt s k next least) ≡ To n → (gap : ℕ) × (p : ℕ) × (len : ℕ) × (next : ℕ) × Taken s k at low n gap p len next
 
   none : IfRead Wrong
-  none e = let z : _≡_ {A = ℕ} 0 1 = cc in absurd (omega arith)
+  none e = impossible cc
 
   all-taken : IfRead (rangeAt s at low)
   unfolding rangeAt belowOf

@@ -5,6 +5,7 @@ use mathlib.Core.List.{List}
 use Prim.Native.Nat.{ℕ}
 use denote.Ref.{now}
 use Rattle.answers.specs.Firm.{Firm, FirmAnswer}
+use Rattle.answers.proofs.Firm.{equation}
 use Rattle.records.specs.declared.Topped.{Topped}
 use Rattle.records.proofs.Record.new.Kinds as new
 use Rattle.records.proofs.Record.new.Reads as making
@@ -24,25 +25,25 @@ use Rattle.records.proofs.take_of.Kinds as take-of
 use Rattle.records.proofs.take_of.Reads as taking-of
 
 pub new-firm : FirmAnswer 0 new.ps new.r making.Asked making.Post
-new-firm = record { asks-nothing = λ κs a. tt; one-outcome = λ κs a x y s t p q. p ∙ sym q }
+new-firm = equation
 
 pub check-firm : FirmAnswer 0 check.ps check.r checking.Asked checking.Post
-check-firm = record { asks-nothing = λ κs a. tt; one-outcome = λ κs a x y s t p q. p ∙ sym q }
+check-firm = equation
 
 pub test-firm : FirmAnswer 0 test.ps test.r testing.Asked testing.Post
-test-firm = record { asks-nothing = λ κs a. tt; one-outcome = λ κs a x y s t p q. p ∙ sym q }
+test-firm = equation
 
 pub take-firm : FirmAnswer 0 take.ps take.r taking.Asked taking.Post
-take-firm = record { asks-nothing = λ κs a. tt; one-outcome = λ κs a x y s t p q. p ∙ sym q }
+take-firm = equation
 
 pub next-run-firm : FirmAnswer 0 next-run.ps next-run.r searching.Asked searching.Post
-next-run-firm = record { asks-nothing = λ κs a. tt; one-outcome = λ κs a x y s t p q. p ∙ sym q }
+next-run-firm = equation
 
 pub check-of-firm : FirmAnswer 1 check-of.ps check-of.r checking-of.Asked checking-of.Post
-check-of-firm = record { asks-nothing = λ κs a. tt; one-outcome = λ κs a x y s t p q. p ∙ sym q }
+check-of-firm = equation
 
 pub test-of-firm : FirmAnswer 1 test-of.ps test-of.r testing-of.Asked testing-of.Post
-test-of-firm = record { asks-nothing = λ κs a. tt; one-outcome = λ κs a x y s t p q. p ∙ sym q }
+test-of-firm = equation
 
 pub take-of-firm : Firm 1 take-of.ps take-of.r taking-of.Asked taking-of.Post (λ κs. Topped × List ℕ) (λ κs x s. (x, now (s .0)))
 take-of-firm = record {
