@@ -5,13 +5,15 @@ use mathlib.Core.Bool.{Bool, true, false, not}
 use mathlib.Core.List.{List}
 use Prim.Native.Nat.{ℕ, zero, suc, _-_, _^_, _≤_}
 use native.Mathlib.Omega.{arith}
-use borrow.Author.Tests.{le-leb}
+use borrow.Author.Tests.{le-leb, not-false}
 use lib.Dec.{eqb}
 use lib.ListN.{length}
-use Rattle.answers.specs.Choice.{_⇒_∣_}
 use Rattle.answers.specs.declared.Answer.the-variants.{NothingToAcknowledge, DoesNotFit}
-use Rattle.wire.specs.declared.Wrote.the-variants.{To, Refused}
-use Rattle.row.specs.Row.{inRange, wroteRowOf, outRowOf, ReadAs}
+use Rattle.wire.specs.Writing.{writes}
+use Rattle.wire.specs.declared.Wrote.{Wrote}
+use Rattle.wire.specs.declared.Wrote.the-variants.{To}
+use Rattle.wire.proofs.Writing.{past}
+use Rattle.row.specs.Row.{inRange, rowDraft, ReadAs}
 use Rattle.row.proofs.Back as row
 use Rattle.records.specs.declared.Record.{Record}
 use Rattle.records.specs.declared.Run.{Run}
@@ -20,19 +22,21 @@ use Rattle.records.specs.Marks.{recorded, soundOf}
 use Rattle.records.specs.Runs.{nextRun, afterRun, runsDown, RunOf}
 use Rattle.records.proofs.Meaning.{run-is}
 use Rattle.records.proofs.Sound.{sound-facts}
-use Rattle.acks.specs.Ack.{rangesOf, frameOf, ackOf, wroteAckOf, outAckOf}
+use Rattle.acks.specs.Ack.{rangesOf, frameOf, ackOf, ackDraft}
 
-module _ (R : Record) (delay : ℕ) (out : List ℕ) (at : ℕ) where
-  -- what is written reads back: type, largest, delay, count, first range, then a gap and a length for each further run
-  pub written : {n : ℕ} → wroteAckOf R delay (length out) at ≡ To n → ReadAs (outAckOf R delay out at) at (ackOf R delay) n
-  unfolding wroteAckOf outAckOf
-  written {n} = go (soundOf R) (eqb (R .top) 0)
-    where
-      go : (b c : Bool) → (not b ⇒ Refused DoesNotFit ∣ c ⇒ Refused NothingToAcknowledge ∣ wroteRowOf (length out) at (ackOf R delay)) ≡ To n
-          → ReadAs (not b ⇒ out ∣ c ⇒ out ∣ outRowOf out at (ackOf R delay)) at (ackOf R delay) n
-      go false c e = let z : _≡_ {A = ℕ} 0 1 = cc in absurd (omega arith)
-      go true true e = let z : _≡_ {A = ℕ} 0 1 = cc in absurd (omega arith)
-      go true false e = row.written out at (ackOf R delay) e
+-- what is accepted is the acknowledgement of a record that fits and is not empty, and it was written as a row of numbers
+pub accepted : (R : Record) (delay : ℕ) (out : List ℕ) (at : ℕ) {r : Wrote} {after : List ℕ} → (r, after) ≡ writes (ackDraft R delay) out at → {n : ℕ} → r ≡ To n
+    → (soundOf R ≡ true) × (eqb (R .top) 0 ≡ false) × ((r, after) ≡ writes (rowDraft (ackOf R delay)) out at)
+unfolding ackDraft
+accepted R delay out at e p =
+    let f = past (not (soundOf R)) DoesNotFit _ out at e p in
+    let g = past (eqb (R .top) 0) NothingToAcknowledge _ out at (f .1) p in
+    (not-false (soundOf R) (f .0), g .0, g .1)
+
+-- what is written reads back: type, largest, delay, count, first range, then a gap and a length for each further run
+pub written : (R : Record) (delay : ℕ) (out : List ℕ) (at : ℕ) {r : Wrote} {after : List ℕ} → (r, after) ≡ writes (ackDraft R delay) out at → {n : ℕ} → r ≡ To n
+    → ReadAs after at (ackOf R delay) n
+written R delay out at e p = row.written (ackOf R delay) out at (accepted R delay out at e p .2) p
 
 -- the numbers of the ranges are no larger than the number above them
 ranges-range : (P : ℕ → Bool) (j k : ℕ) → k ≤ 2 ^ 62 → inRange (rangesOf k (runsDown j P k)) ≡ true

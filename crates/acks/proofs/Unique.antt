@@ -1,4 +1,4 @@
--- The contract of `write` is firm: it is an equation of the answer and one of the output.
+-- The contract of `write` is firm: it is one equation of the answer and the output.
 -- Assumes nothing.
 use mathlib.Core.Path.{sym, _∙_}
 use mathlib.Core.List.{List}
@@ -10,4 +10,4 @@ use Rattle.acks.proofs.write.Kinds
 use Rattle.acks.proofs.write.Reads
 
 pub write-firm : Firm 1 Kinds.ps Kinds.r Reads.Asked Reads.Post (λ κs. Wrote × List ℕ) (λ κs x s. (x, now (s .1 .1 .0)))
-write-firm = record { asks-nothing = λ κs a. tt; one-outcome = λ κs a x y s t p q. λ i. ((p .0 ∙ sym (q .0)) i, (p .1 ∙ sym (q .1)) i) }
+write-firm = record { asks-nothing = λ κs a. tt; one-outcome = λ κs a x y s t p q. p ∙ sym q }

@@ -6,9 +6,8 @@ use lib.ListN.{length}
 use lib.Dec.{eqb}
 use Rattle.answers.specs.Choice.{_⇒_∣_}
 use Rattle.answers.specs.declared.Answer.the-variants.{NothingToAcknowledge, DoesNotFit}
-use Rattle.wire.specs.declared.Wrote.{Wrote}
-use Rattle.wire.specs.declared.Wrote.the-variants.{Refused}
-use Rattle.row.specs.Row.{wroteRowOf, outRowOf}
+use Rattle.wire.specs.Writing.{Draft, Never}
+use Rattle.row.specs.Row.{rowDraft}
 use Rattle.records.specs.declared.Record.{Record}
 use Rattle.records.specs.declared.Run.{Run}
 use Rattle.records.specs.declared.Run.the-variants.{Span, Nothing}
@@ -31,16 +30,9 @@ frameOf delay (Nothing ∷ runs) = []
 unfoldable pub ackOf : Record → ℕ → List ℕ
 ackOf R delay = frameOf delay (runsDown 32 (recorded R) (R .top))
 
--- the answer, from the output's length n: 120, 112, then 109 and 108 as of any row of numbers
-unfoldable pub wroteAckOf : Record → ℕ → ℕ → ℕ → Wrote
-wroteAckOf R delay n at =
-    not (soundOf R) ⇒ Refused DoesNotFit
-    ∣ eqb (R .top) 0 ⇒ Refused NothingToAcknowledge
-    ∣ wroteRowOf n at (ackOf R delay)
-
--- the output at exit: the frame at the place and all else as it was; after a refusal all as it was
-unfoldable pub outAckOf : Record → ℕ → List ℕ → ℕ → List ℕ
-outAckOf R delay out at =
-    not (soundOf R) ⇒ out
-    ∣ eqb (R .top) 0 ⇒ out
-    ∣ outRowOf out at (ackOf R delay)
+-- the acknowledgement: 120, 112, then 109 as of any row of numbers
+unfoldable pub ackDraft : Record → ℕ → Draft
+ackDraft R delay =
+    not (soundOf R) ⇒ Never DoesNotFit
+    ∣ eqb (R .top) 0 ⇒ Never NothingToAcknowledge
+    ∣ rowDraft (ackOf R delay)

@@ -1,7 +1,7 @@
 // The acknowledgement of a space (RFC 9000, 19.3): a record written as an ACK frame of at most 32 runs.
 ghost use mathlib.Core.Path.{_≡_};
-ghost use lib.ListN.{length};
-ghost use Rattle.acks.specs.Ack.{wroteAckOf, outAckOf};
+ghost use Rattle.wire.specs.Writing.{writes};
+ghost use Rattle.acks.specs.Ack.{ackDraft};
 ghost use Rattle.acks.specs.Parts.{Above, Ranged, Framed};
 use answers::Answer;
 use records::Record;
@@ -52,7 +52,7 @@ fn frame(seen: Record, delay: u64) -> Front
 
 // Writes the acknowledgement of a record at a place, with the delay that the caller names. A refusal leaves the output untouched.
 pub fn write(seen: Record, delay: u64, out: &mut [u8], at: usize) -> Wrote
-    ensures { λ r. ⌜ (r ≡ wroteAckOf seen delay (length (now (out .entry))) at) × (now (out .exit) ≡ outAckOf seen delay (now (out .entry)) at) ⌝ }
+    ensures { λ r. ⌜ (r, now (out .exit)) ≡ writes (ackDraft seen delay) (now (out .entry)) at ⌝ }
 {
     let Answer::Accepted = seen.check() else {
         return Wrote::Refused {

@@ -2,19 +2,17 @@
 -- Assumes nothing.
 use Prim.Native.Nat.{ℕ, zero, suc, _+_, _-_, _≤_, _<_}
 use mathlib.Core.Path.{_≡_, refl, sym, _∙_, ap, subst}
-use mathlib.Core.Bool.{Bool, true, false, not, true≢false}
+use mathlib.Core.Bool.{Bool, true, false, true≢false}
 use mathlib.Core.List.{List, [], _∷_}
 use native.Mathlib.Omega.{arith}
 use native.Mathlib.Nat.{add-assoc}
 use borrow.Author.Tests.{le-ltb, eq-eqb, ne-eqb, eqb-false}
-use lib.Dec.{eqb}
 use lib.ListN.{length}
-use Rattle.answers.specs.Choice.{_⇒_∣_}
-use Rattle.answers.specs.declared.Answer.the-variants.{NothingToAcknowledge, DoesNotFit}
 use Rattle.wire.specs.Number.{numberAt, formOf, sizeOf, shortest, Stands}
 use Rattle.wire.specs.declared.Number.the-variants.{Is}
-use Rattle.wire.specs.declared.Wrote.the-variants.{To, Refused}
-use Rattle.row.specs.Row.{inRange, sizeAll, bytesAll, wroteRowOf, outRowOf, ReadAs}
+use Rattle.wire.specs.Writing.{writes}
+use Rattle.wire.specs.declared.Wrote.the-variants.{To}
+use Rattle.row.specs.Row.{inRange, sizeAll, bytesAll, rowDraft, ReadAs}
 use Rattle.row.proofs.Back as row
 use Rattle.ranges.specs.Ranges.{rangeAt, rangesAt}
 use Rattle.ranges.specs.Walk.{firstOf, stepOf}
@@ -37,6 +35,7 @@ use Rattle.records.proofs.Meaning.{run-is, apart}
 use Rattle.records.proofs.Ring.{rec-in}
 use Rattle.records.proofs.Sound.{sound-facts}
 use Rattle.acks.specs.Ack as acks
+use Rattle.acks.proofs.Back as ack
 use Rattle.demands.specs.Acknowledged.{found, Acknowledges, ReadsBack}
 
 -- runs below low, each from its highest number down, and a number missing above each
@@ -131,25 +130,20 @@ some-run R s h f =
     true≢false (sym (rec-in R (R .top - 1) (omega arith) (omega arith) ∙ eq-eqb _ 1 (sound-facts R s .last (omega arith))) ∙ f (R .top - 1) (omega arith))
 
 -- a row of the record's runs that was written
-runs-back : (R : Record) (delay : ℕ) (out : List ℕ) (at n : ℕ) → soundOf R ≡ true → (R .top ≡ 0 → ⊥) → wroteRowOf (length out) at (acks.ackOf R delay) ≡ To n
-    → Acknowledges (outRowOf out at (acks.ackOf R delay)) at n delay (runsDown 32 (recorded R) (R .top))
+runs-back : (R : Record) (delay : ℕ) (out : List ℕ) (at n : ℕ) (after : List ℕ) → soundOf R ≡ true → (R .top ≡ 0 → ⊥) → (To n, after) ≡ writes (rowDraft (acks.ackOf R delay)) out at
+    → Acknowledges after at n delay (runsDown 32 (recorded R) (R .top))
 unfolding acks.ackOf runsDown afterRun
-runs-back R delay out at n s h e = go (nextRun (recorded R) (R .top)) (run-is (recorded R) (R .top)) e
+runs-back R delay out at n after s h e = go (nextRun (recorded R) (R .top)) (run-is (recorded R) (R .top)) e
   where
-    go : (r : Run) → RunOf (recorded R) (R .top) r → wroteRowOf (length out) at (acks.frameOf delay (afterRun r (runsDown 31 (recorded R)))) ≡ To n
-        → Acknowledges (outRowOf out at (acks.frameOf delay (afterRun r (runsDown 31 (recorded R))))) at n delay (afterRun r (runsDown 31 (recorded R)))
+    go : (r : Run) → RunOf (recorded R) (R .top) r → (To n, after) ≡ writes (rowDraft (acks.frameOf delay (afterRun r (runsDown 31 (recorded R))))) out at
+        → Acknowledges after at n delay (afterRun r (runsDown 31 (recorded R)))
     go (Span high low) r e =
-        let w = row.accepted out at _ e in
-        frame-back _ at delay high low (runsDown 31 (recorded R) low) n (r .ordered) (runs-apart (recorded R) 31 low (r .stop)) (w .range) (w .stands) (w .ends)
+        let w = row.accepted _ out at e refl in
+        frame-back _ at delay high low (runsDown 31 (recorded R) low) n (r .ordered) (runs-apart (recorded R) 31 low (r .stop)) (w .0) (w .1 .stands) (w .1 .ends ∙ rw row.length-all)
     go Nothing r e = absurd (some-run R s h r)
 
 -- what was answered with a place is such a row: all else is a refusal
 pub reads-back : ReadsBack
-unfolding acks.wroteAckOf acks.outAckOf
-reads-back R delay out at n = go (soundOf R) refl (eqb (R .top) 0) refl
-  where
-    go : (b : Bool) → soundOf R ≡ b → (c : Bool) → eqb (R .top) 0 ≡ c → (not b ⇒ Refused DoesNotFit ∣ c ⇒ Refused NothingToAcknowledge ∣ wroteRowOf (length out) at (acks.ackOf R delay)) ≡ To n
-        → Acknowledges (not b ⇒ out ∣ c ⇒ out ∣ outRowOf out at (acks.ackOf R delay)) at n delay (runsDown 32 (recorded R) (R .top))
-    go false p c q e = let z : _≡_ {A = ℕ} 0 1 = cc in absurd (omega arith)
-    go true p true q e = let z : _≡_ {A = ℕ} 0 1 = cc in absurd (omega arith)
-    go true p false q e = runs-back R delay out at n p (eqb-false (R .top) 0 q) e
+reads-back R delay out at n after e =
+    let a = ack.accepted R delay out at e refl in
+    runs-back R delay out at n after (a .0) (eqb-false (R .top) 0 (a .1)) (a .2)

@@ -4,6 +4,7 @@ use mathlib.Core.Path.{_≡_}
 use mathlib.Core.Bool.{true}
 use mathlib.Core.List.{List, [], _∷_}
 use lib.ListN.{length}
+use Rattle.wire.specs.Writing.{writes}
 use Rattle.wire.specs.declared.Wrote.the-variants.{To}
 use Rattle.ranges.specs.Walk.{firstOf, stepOf}
 use Rattle.ranges.specs.declared.Step.{Step}
@@ -18,7 +19,7 @@ use Rattle.records.specs.declared.Run.{Run}
 use Rattle.records.specs.declared.Run.the-variants.{Span}
 use Rattle.records.specs.Marks.{recorded}
 use Rattle.records.specs.Runs.{runsDown}
-use Rattle.acks.specs.Ack.{wroteAckOf, outAckOf}
+use Rattle.acks.specs.Ack.{ackDraft}
 
 -- the runs that a walk down the ranges finds, n at most
 unfoldable pub found : List ℕ → ℕ → Step → List Run
@@ -38,5 +39,5 @@ pub record Acknowledges (out : List ℕ) (at n delay : ℕ) (runs : List Run) : 
 
 -- of every record, whenever the acknowledgement is written
 abbrev pub ReadsBack : Type 0
-ReadsBack = (R : Record) (delay : ℕ) (out : List ℕ) (at n : ℕ) → wroteAckOf R delay (length out) at ≡ To n
-    → Acknowledges (outAckOf R delay out at) at n delay (runsDown 32 (recorded R) (R .top))
+ReadsBack = (R : Record) (delay : ℕ) (out : List ℕ) (at n : ℕ) (after : List ℕ) → (To n, after) ≡ writes (ackDraft R delay) out at
+    → Acknowledges after at n delay (runsDown 32 (recorded R) (R .top))

@@ -8,9 +8,9 @@ use native.Mathlib.Numerals.{add-one}
 use native.Mathlib.Omega.{arith}
 use lib.ListN.{length, take, drop, length-drop}
 use lib.Seq.{take-all}
-use Rattle.text.specs.Words.{before, findOf}
+use Rattle.search.specs.Words.{before, findOf}
 use Rattle.text.proofs.Steps.{ended}
-use Rattle.text.proofs.Search.{found}
+use Rattle.search.proofs.Search.{found}
 use Rattle.lines.specs.Words.{behindBlank, fromWord, firstWord}
 
 module _ (s : List ℕ) (b end : ℕ) (e : end ≡ findOf s 0 b) where

@@ -10,7 +10,7 @@ use lib.Dec.{eqb}
 use lib.ListN.{length, getD, drop}
 use lib.Seq.{take-length, take-append-seam}
 use Rattle.text.specs.Text.{every}
-use Rattle.text.specs.Words.{before}
+use Rattle.search.specs.Words.{before}
 use Rattle.lines.specs.Words.{blanks, gapBehind, countOf, behindBlank, fromWord, firstWord, wordOf, IsWord, AreWords, joinedOf}
 use Rattle.lines.proofs.Counting.{some-words}
 

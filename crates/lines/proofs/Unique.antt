@@ -5,7 +5,7 @@ use mathlib.Core.List.{List}
 use Prim.Native.Nat.{ℕ}
 use denote.Ref.{now}
 use Rattle.answers.specs.Firm.{Firm, FirmAnswer}
-use Rattle.text.specs.declared.hex.Pairs.{Pairs}
+use Rattle.hex.specs.declared.Pairs.{Pairs}
 use Rattle.lines.specs.declared.gather.Gathered.{Gathered}
 use Rattle.lines.proofs.words.count.Kinds as count
 use Rattle.lines.proofs.words.count.Reads as count-reads
@@ -29,7 +29,7 @@ pub with-sign-firm : FirmAnswer 1 with-sign.ps with-sign.r with-sign-reads.Asked
 with-sign-firm = record { asks-nothing = λ κs a. tt; one-outcome = λ κs a x y s t p q. p ∙ sym q }
 
 pub bytes-firm : Firm 2 bytes.ps bytes.r bytes-reads.Asked bytes-reads.Post (λ κs. Pairs × List ℕ) (λ κs x s. (x, now (s .1 .0)))
-bytes-firm = record { asks-nothing = λ κs a. tt; one-outcome = λ κs a x y s t p q. λ i. ((p .0 ∙ sym (q .0)) i, (p .1 ∙ sym (q .1)) i) }
+bytes-firm = record { asks-nothing = λ κs a. tt; one-outcome = λ κs a x y s t p q. p ∙ sym q }
 
 pub gather-firm : Firm 2 gather.ps gather.r gather-reads.Asked gather-reads.Post (λ κs. Gathered × List ℕ) (λ κs x s. (x, now (s .0)))
-gather-firm = record { asks-nothing = λ κs a. tt; one-outcome = λ κs a x y s t p q. λ i. ((p .0 ∙ sym (q .0)) i, (p .1 ∙ sym (q .1)) i) }
+gather-firm = record { asks-nothing = λ κs a. tt; one-outcome = λ κs a x y s t p q. p ∙ sym q }

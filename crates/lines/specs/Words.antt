@@ -7,13 +7,13 @@ use lib.ListN.{length, take, drop}
 use lib.Dec.{eqb}
 use Rattle.answers.specs.Choice.{_⇒_∣_}
 use Rattle.text.specs.Text.{every}
-use Rattle.text.specs.Words.{before, sameOf}
 use Rattle.text.specs.Decimal.{parsedOf}
-use Rattle.text.specs.Hex.{pairsOf, outPairsOf}
 use Rattle.text.specs.declared.decimal.Parsed.{Parsed}
 use Rattle.text.specs.declared.decimal.Parsed.the-variants as Parsed'
-use Rattle.text.specs.declared.hex.Pairs.{Pairs}
-use Rattle.text.specs.declared.hex.Pairs.the-variants.{Are}
+use Rattle.hex.specs.Hex.{pairsOf}
+use Rattle.hex.specs.declared.Pairs.{Pairs}
+use Rattle.hex.specs.declared.Pairs.the-variants.{Are}
+use Rattle.search.specs.Words.{before, sameOf}
 use Rattle.lines.specs.declared.words.Signed.{Signed}
 use Rattle.lines.specs.declared.words.Signed.the-variants.{Plus, Minus, Wrong}
 
@@ -69,17 +69,11 @@ signedOf (x ∷ w) =
 unfoldable pub isNone : List ℕ → Bool
 isNone w = sameOf w (45 ∷ [])
 
--- a word as bytes, for an output of n bytes: none, or pairs of digits
-unfoldable pub bytesOf : ℕ → List ℕ → Pairs
-bytesOf n w =
-    isNone w ⇒ Are 0
-    ∣ pairsOf n w
-
--- the output at exit
-unfoldable pub outBytesOf : List ℕ → List ℕ → List ℕ
-outBytesOf out w =
-    isNone w ⇒ out
-    ∣ outPairsOf out w
+-- a word as bytes, none or pairs of digits, and the output at exit
+unfoldable pub bytesOf : List ℕ → List ℕ → Pairs × List ℕ
+bytesOf w out =
+    isNone w ⇒ (Are 0, out)
+    ∣ pairsOf w out
 
 -- what is meant by a word and by words: none is empty or has a blank
 pub record IsWord (w : List ℕ) : Type 0 where

@@ -1,9 +1,7 @@
 // A line that comes in pieces: what is kept of it, and where it ends.
 ghost use mathlib.Core.Path.{_≡_};
-ghost use lib.ListN.{length};
-ghost use Rattle.lines.specs.Gathered.{grownOf, rowOf, pieceOf, gatheredOf};
+ghost use Rattle.lines.specs.Gathered.{grownOf, gatheredOf};
 use text::put;
-use text::words;
 use wire::Wrote;
 
 // What is kept of a line: so many bytes at the front of a row, or nothing of one that the row does not hold.
@@ -21,7 +19,7 @@ pub struct Gathered {
 
 // Puts a piece behind what is kept.
 fn grown(row: &mut [u8], line: Line, piece: &[u8]) -> Line
-    ensures { λ r. ⌜ (r ≡ grownOf (length (now (row .entry))) line (now (piece .entry))) × (now (row .exit) ≡ rowOf (now (row .entry)) line (now (piece .entry))) ⌝ }
+    ensures { λ r. ⌜ (r, now (row .exit)) ≡ grownOf line (now (piece .entry)) (now (row .entry)) ⌝ }
 {
     let Line::Kept { len } = line else {
         return Line::TooLong;
@@ -34,9 +32,9 @@ fn grown(row: &mut [u8], line: Line, piece: &[u8]) -> Line
 
 // Takes what comes up to the first newline.
 pub fn gather(row: &mut [u8], line: Line, s: &[u8]) -> Gathered
-    ensures { λ r. ⌜ (r ≡ gatheredOf (length (now (row .entry))) line (now (s .entry))) × (now (row .exit) ≡ rowOf (now (row .entry)) line (pieceOf (now (s .entry)))) ⌝ }
+    ensures { λ r. ⌜ (r, now (row .exit)) ≡ gatheredOf line (now (s .entry)) (now (row .entry)) ⌝ }
 {
-    let end = words::line_end(s, 0);
+    let end = search::line_end(s, 0);
     let line = grown(row, line, &s[0..end]);
     if end < s.len() {
         return Gathered {

@@ -2,13 +2,11 @@
 ghost use mathlib.Core.Path.{_≡_};
 ghost use Prim.Native.Nat.{_≤_};
 ghost use lib.ListN.{length, drop};
-ghost use Rattle.lines.specs.Words.{countOf, behindBlank, wordOf, asSigned, signedOf, bytesOf, outBytesOf};
+ghost use Rattle.lines.specs.Words.{countOf, behindBlank, wordOf, asSigned, signedOf, bytesOf};
 ghost use Rattle.text.specs.Decimal.{parsedOf};
+use hex::Pairs;
 use text::decimal;
 use text::decimal::Parsed;
-use text::hex;
-use text::hex::Pairs;
-use text::words;
 
 // A number with or without "-" before it.
 pub enum Signed {
@@ -45,7 +43,7 @@ pub fn count(s: &[u8]) -> usize
 fn past(s: &[u8]) -> usize
     ensures { λ r. ⌜ (r ≤ length (now (s .entry))) × (drop r (now (s .entry)) ≡ behindBlank (now (s .entry))) ⌝ }
 {
-    let end = words::word_end(s, 0);
+    let end = search::word_end(s, 0);
     if end < s.len() {
         return end + 1;
     }
@@ -63,7 +61,7 @@ pub fn word(s: &[u8], n: usize) -> &[u8]
         rest = &rest[at..];
         left -= 1;
     }
-    let end = words::word_end(rest, 0);
+    let end = search::word_end(rest, 0);
     &rest[0..end]
 }
 
@@ -95,9 +93,9 @@ pub fn with_sign(word: &[u8]) -> Signed
 
 // A word as bytes, which go to the front of the output: pairs of digits, or "-" for none.
 pub fn bytes(word: &[u8], out: &mut [u8]) -> Pairs
-    ensures { λ r. ⌜ (r ≡ bytesOf (length (now (out .entry))) (now (word .entry))) × (now (out .exit) ≡ outBytesOf (now (out .entry)) (now (word .entry))) ⌝ }
+    ensures { λ r. ⌜ (r, now (out .exit)) ≡ bytesOf (now (word .entry)) (now (out .entry)) ⌝ }
 {
-    if words::same(word, b"-") {
+    if search::same(word, b"-") {
         return Pairs::Are { count: 0 };
     }
     hex::read(word, out)

@@ -8,12 +8,12 @@ use lib.ListN.{length, take, replicate}
 use Rattle.streams.specs.declared.Opened.{Opened}
 use Rattle.streams.specs.declared.Opened.the-variants.{As, Refused}
 use Rattle.taking.specs.Step.{handedOf, handedAt}
-use Rattle.text.specs.Text.{wroteTextOf, outTextOf}
 use Rattle.text.specs.Decimal.{digitsOf, decimalOf}
 use Rattle.rows.specs.Row.{fieldOf, typeOf, rowOf}
 use Rattle.rows.specs.Listing.{typeShown, takenRowOf, nextIn, afterOf, closedText, endingOf}
-use Rattle.pages.specs.Pages.{smallOf, withRow, oneMoreOf, oneMoreOut, pageFrom, pageOf, lastOf}
+use Rattle.pages.specs.Pages.{smallOf, withRow, oneMoreOf, pageFrom, pageOf, lastOf}
 use Rattle.pages.specs.declared.Page.{Page}
+use Rattle.wire.specs.Writing.{writes}
 use Rattle.wire.specs.Number.{numberAt, fieldAt, valuesIn, bigEndian, shortest, sizeOf, formOf}
 use Rattle.frames.specs.Layout.{layouts, layoutOf, known}
 use Rattle.frames.specs.Admission.{admitted}
@@ -46,7 +46,7 @@ written s (p ∷ l) = let r = pageOf p s (replicate 100 0) in take (r .0 .used) 
 -- "0 1 0 0", "1 10 0 5", "9 4 3 5", "closed 3"
 pub example : written (1 ∷ 10 ∷ 0 ∷ 5 ∷ 104 ∷ 101 ∷ 108 ∷ 108 ∷ 111 ∷ 4 ∷ 4 ∷ 0 ∷ 20 ∷ []) (first (smallOf .opened))
     ≡ 48 ∷ 32 ∷ 49 ∷ 32 ∷ 48 ∷ 32 ∷ 48 ∷ 10 ∷ 49 ∷ 32 ∷ 49 ∷ 48 ∷ 32 ∷ 48 ∷ 32 ∷ 53 ∷ 10 ∷ 57 ∷ 32 ∷ 52 ∷ 32 ∷ 51 ∷ 32 ∷ 53 ∷ 10 ∷ 99 ∷ 108 ∷ 111 ∷ 115 ∷ 101 ∷ 100 ∷ 32 ∷ 51 ∷ 10 ∷ []
-unfolding numberAt fieldAt valuesIn bigEndian shortest sizeOf formOf layouts layoutOf known admitted numbersAt optionalAt sizedAt countedAt rangedAt faultOf aboveOf frameOf endedAt fieldsAt headAt frameAt listed placeOf finalOf reached upTo openTo markedAs openedConn openingOf rule1 rule2 rule3 rule4 rule5 endsOf endOf ruledOf connAfter entryAfter settledOf judgedOf isFresh entryFitsAs limitsFit countsFit connFits sumTo allTo fits askedOf askedAt turnOf gateOf openingWhen filledTo openedTable turnAt tookFrameOf frameTable handedOf handedAt wroteTextOf outTextOf digitsOf decimalOf fieldOf typeOf rowOf typeShown takenRowOf nextIn afterOf closedText endingOf smallOf withRow oneMoreOf oneMoreOut pageFrom pageOf lastOf
+unfolding numberAt fieldAt valuesIn bigEndian shortest sizeOf formOf layouts layoutOf known admitted numbersAt optionalAt sizedAt countedAt rangedAt faultOf aboveOf frameOf endedAt fieldsAt headAt frameAt listed placeOf finalOf reached upTo openTo markedAs openedConn openingOf rule1 rule2 rule3 rule4 rule5 endsOf endOf ruledOf connAfter entryAfter settledOf judgedOf isFresh entryFitsAs limitsFit countsFit connFits sumTo allTo fits askedOf askedAt turnOf gateOf openingWhen filledTo openedTable turnAt tookFrameOf frameTable handedOf handedAt writes digitsOf decimalOf fieldOf typeOf rowOf typeShown takenRowOf nextIn afterOf closedText endingOf smallOf withRow oneMoreOf pageFrom pageOf lastOf
 example = refl
 
 -- an empty payload: "closed 10"

@@ -7,11 +7,11 @@ use Prim.Native.Nat.{ℕ, zero, suc, _-_, _≤_, _<_}
 use native.Mathlib.Omega.{arith}
 use borrow.Author.Tests.{le-leb, lt-leb}
 use lib.ListN.{length}
+use Rattle.wire.specs.Writing.{Bytes, writes}
 use Rattle.wire.specs.declared.Wrote.{Wrote}
 use Rattle.held.specs.declared.HeldFrame.{HeldFrame}
-use Rattle.text.specs.Text.{wroteTextOf, outTextOf}
 use Rattle.rows.specs.Listing.{takenRowOf}
-use Rattle.pages.specs.Pages.{takenFrom, withRow, oneMoreOf, oneMoreOut, pageFrom}
+use Rattle.pages.specs.Pages.{takenFrom, withRow, oneMoreOf, pageFrom}
 use Rattle.pages.specs.declared.Page.{Page}
 
 module _ (p : Page) (s out : List ℕ) where
@@ -30,17 +30,15 @@ module _ (p : Page) (s out : List ℕ) where
   none-left zero h = refl
   none-left (suc k) h = absurd (omega arith)
 
-  pub goes-on : (k : ℕ) → 0 < k → p .full ≡ false → p .at < length s → pageFrom (k - 1) (oneMoreOf p s (length out)) s (oneMoreOut p s out) ≡ pageFrom k p s out
+  pub goes-on : (k : ℕ) → 0 < k → p .full ≡ false → p .at < length s → {q : Page} {after : List ℕ} → (q, after) ≡ oneMoreOf p s out → pageFrom (k - 1) q s after ≡ pageFrom k p s out
   unfolding pageFrom
-  goes-on zero h f l = absurd (omega arith)
-  goes-on (suc k) h f l = let z : suc k - 1 ≡ k = omega arith in rw (z, f, lt-leb (length s) (p .at) l) refl
+  goes-on zero h f l e = absurd (omega arith)
+  goes-on (suc k) h f l e = let z : suc k - 1 ≡ k = omega arith in rw (← e, z, f, lt-leb (length s) (p .at) l) refl
 
   -- a row more, from what taking the frame and writing its row answered
-  module _ (held : HeldFrame) (e : held ≡ takenFrom p s) where
-    pub by-row : (n : ℕ) (w : Wrote) → w ≡ wroteTextOf n (p .used) (takenRowOf (p .at) (held .took)) → withRow p s held w ≡ oneMoreOf p s n
-    unfolding oneMoreOf
-    by-row n w f = ap (withRow p s held) f ∙ ap (λ (h : HeldFrame). withRow p s h (wroteTextOf n (p .used) (takenRowOf (p .at) (h .took)))) e
-
-    pub by-out : outTextOf out (p .used) (takenRowOf (p .at) (held .took)) ≡ oneMoreOut p s out
-    unfolding oneMoreOut
-    by-out = ap (λ (h : HeldFrame). outTextOf out (p .used) (takenRowOf (p .at) (h .took))) e
+  pub by-row : (held : HeldFrame) → held ≡ takenFrom p s → {w : Wrote} {after : List ℕ} → (w, after) ≡ writes (Bytes (takenRowOf (p .at) (held .took))) out (p .used)
+      → {q : Page} → withRow p s held w ≡ q → (q, after) ≡ oneMoreOf p s out
+  unfolding oneMoreOf
+  by-row held e g f =
+      rw (← f) (ap (λ (o : Wrote × List ℕ). (withRow p s held (o .0), o .1)) g
+      ∙ ap (λ (h : HeldFrame). let w = writes (Bytes (takenRowOf (p .at) (h .took))) out (p .used) in (withRow p s h (w .0), w .1)) e)

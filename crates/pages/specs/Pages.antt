@@ -6,6 +6,7 @@ use lib.ListN.{length, replicate}
 use lib.Dec.{leb, eqb}
 use Rattle.answers.specs.Choice.{_⇒_∣_}
 use Rattle.answers.specs.declared.Answer.the-variants.{ProtocolViolation}
+use Rattle.wire.specs.Writing.{Bytes, writes}
 use Rattle.wire.specs.declared.Wrote.{Wrote}
 use Rattle.wire.specs.declared.Wrote.the-variants.{To, Refused}
 use Rattle.frames.specs.declared.Kind.the-variants.{OneRtt}
@@ -16,7 +17,6 @@ use Rattle.accounts.specs.Neighbours.{small}
 use Rattle.held.specs.Held.{heldOpenedOf, heldFrameOf}
 use Rattle.held.specs.declared.HeldOpened.{HeldOpened}
 use Rattle.held.specs.declared.HeldFrame.{HeldFrame}
-use Rattle.text.specs.Text.{wroteTextOf, outTextOf}
 use Rattle.rows.specs.Listing.{takenRowOf, afterOf}
 use Rattle.pages.specs.declared.Page.{Page}
 
@@ -37,20 +37,19 @@ unfoldable pub withRow : Page → List ℕ → HeldFrame → Wrote → Page
 withRow p s held (To next) = record { conn = held .took .conn; table = held .table; at = afterOf (held .took) (length s); used = next; full = false }
 withRow p s held (Refused answer) = waiting p
 
--- a page with one row more, in an output of n bytes
-unfoldable pub oneMoreOf : Page → List ℕ → ℕ → Page
-oneMoreOf p s n = withRow p s (takenFrom p s) (wroteTextOf n (p .used) (takenRowOf (p .at) (takenFrom p s .took)))
-
--- and the output then
-unfoldable pub oneMoreOut : Page → List ℕ → List ℕ → List ℕ
-oneMoreOut p s out = outTextOf out (p .used) (takenRowOf (p .at) (takenFrom p s .took))
+-- a page with one row more, and the output then
+unfoldable pub oneMoreOf : Page → List ℕ → List ℕ → Page × List ℕ
+oneMoreOf p s out =
+    let held = takenFrom p s in
+    let w = writes (Bytes (takenRowOf (p .at) (held .took))) out (p .used) in
+    (withRow p s held (w .0), w .1)
 
 -- k rows more, or as many as there are frames and room for
 unfoldable pub pageFrom : ℕ → Page → List ℕ → List ℕ → Page × List ℕ
 pageFrom zero p s out = (p, out)
 pageFrom (suc k) p s out =
     p .full || leb (length s) (p .at) ⇒ (p, out)
-    ∣ pageFrom k (oneMoreOf p s (length out)) s (oneMoreOut p s out)
+    ∣ pageFrom k (oneMoreOf p s out .0) s (oneMoreOf p s out .1)
 
 -- an empty page that goes on where another stopped
 abbrev pub turned : Page → Page

@@ -1,7 +1,6 @@
 // The listing of a payload (document 01, "Bench examples"), as many rows at a time as an output holds.
 ghost use mathlib.Core.Path.{_≡_};
-ghost use lib.ListN.{length};
-ghost use Rattle.pages.specs.Pages.{smallOf, oneMoreOf, oneMoreOut, pageOf, lastOf};
+ghost use Rattle.pages.specs.Pages.{smallOf, oneMoreOf, pageOf, lastOf};
 use answers::Answer;
 use frames::Kind;
 use held::HeldOpened;
@@ -30,7 +29,7 @@ pub fn small() -> HeldOpened
 
 // One row more, unless there is no room for it.
 fn one_more(p: Page, s: &[u8], out: &mut [u8]) -> Page
-    ensures { λ r. ⌜ (r ≡ oneMoreOf p (now (s .entry)) (length (now (out .entry)))) × (now (out .exit) ≡ oneMoreOut p (now (s .entry)) (now (out .entry))) ⌝ }
+    ensures { λ r. ⌜ (r, now (out .exit)) ≡ oneMoreOf p (now (s .entry)) (now (out .entry)) ⌝ }
 {
     let conn = p.conn;
     let table = p.table;

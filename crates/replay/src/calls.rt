@@ -2,12 +2,12 @@
 // looked whether there is a connection: it answers "what" and not "none".
 use crate::line;
 use frames::Kind;
+use hex::Pairs;
 use lines::words;
 use lines::words::Signed;
 use numbers::Size;
 use streams::Space;
 use text::decimal::Parsed;
-use text::hex::Pairs;
 
 // A call, whose bytes, if it has any, stand beside it: `count` says how many.
 pub enum Call {

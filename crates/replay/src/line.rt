@@ -1,13 +1,13 @@
 // The words of a line, by their place in it: as a name, a number or bytes.
+use hex::Pairs;
 use lines::words;
 use lines::words::Signed;
 use text::decimal;
 use text::decimal::Parsed;
-use text::hex::Pairs;
 
 // Whether a word is this one.
 pub fn is(s: &[u8], n: usize, word: &[u8]) -> bool {
-    text::words::same(words::word(s, n), word)
+    search::same(words::word(s, n), word)
 }
 
 // A word as a number.

@@ -1,6 +1,5 @@
 // What answers are written with: texts, numbers and bytes, each at a place of the output, telling the place after it.
 use text::decimal;
-use text::hex;
 use text::put;
 use wire::Wrote;
 

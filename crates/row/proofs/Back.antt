@@ -1,25 +1,25 @@
 -- A row that was written reads back, number after number: where it stands, its first number is read and the rest stands behind it.
 -- Assumes nothing.
-use mathlib.Core.Path.{_≡_, refl, sym, subst}
-use mathlib.Core.Bool.{Bool, true, false, not, and-eq-true-iff}
+use mathlib.Core.Path.{_≡_, refl, sym, _∙_, subst}
+use mathlib.Core.Bool.{true, false, not, and-eq-true-iff}
 use mathlib.Core.List.{List, [], _∷_}
 use Prim.Native.Nat.{ℕ, _+_, _-_, _^_}
 use native.Mathlib.Nat.{add-zero, add-assoc}
 use native.Mathlib.Omega.{arith}
-use borrow.Author.Tests.{leb-true, ltb-false}
-use lib.Dec.{ltb, leb}
+use borrow.Author.Tests.{leb-true, not-false}
+use lib.Dec.{leb}
 use lib.ListN.{length, length-append}
-use lib.Seq.{sets}
-use Rattle.answers.specs.Choice.{_⇒_∣_}
-use Rattle.answers.specs.declared.Answer.{Answer}
-use Rattle.answers.specs.declared.Answer.the-variants.{NoRoom, Unwritable}
+use Rattle.answers.specs.declared.Answer.the-variants.{Unwritable}
 use Rattle.wire.specs.Number.{numberAt, bytesOf, sizeOf, Stands}
+use Rattle.wire.specs.Writing.{Bytes, Never, writes, Written}
 use Rattle.wire.specs.declared.Number.the-variants.{Is}
-use Rattle.wire.specs.declared.Wrote.the-variants.{To, Refused}
-use Rattle.wire.proofs.Standing.{left, right, stored}
+use Rattle.wire.specs.declared.Wrote.{Wrote}
+use Rattle.wire.specs.declared.Wrote.the-variants.{To}
+use Rattle.wire.proofs.Standing.{left, right}
 use Rattle.wire.proofs.Back.{back}
+use Rattle.wire.proofs.Writing.{past, bytes-written}
 use Rattle.wire.proofs.Exit.{length-bytes}
-use Rattle.row.specs.Row.{inRange, sizeAll, bytesAll, wroteRowOf, outRowOf, RowWritten, ReadAs}
+use Rattle.row.specs.Row.{inRange, sizeAll, bytesAll, rowDraft, ReadAs}
 
 pub length-all : (vs : List ℕ) → length (bytesAll vs) ≡ sizeAll vs
 unfolding bytesAll sizeAll
@@ -45,31 +45,26 @@ reads s (v ∷ vs) at r st =
     let p = peel s at v vs r st in
     (at + sizeOf v, p .0, subst (ReadAs s (at + sizeOf v) vs) (add-assoc at (sizeOf v) (sizeAll vs)) (reads s vs (at + sizeOf v) (p .1) (p .2)))
 
-module _ (out : List ℕ) (at : ℕ) (vs : List ℕ) where
-  -- a refusal leaves the output untouched
-  pub refused : {a : Answer} → wroteRowOf (length out) at vs ≡ Refused a → outRowOf out at vs ≡ out
-  unfolding wroteRowOf outRowOf
-  refused {a} = go (inRange vs) (ltb (length out) (at + sizeAll vs))
-    where
-      go : (b c : Bool) → (not b ⇒ Refused Unwritable ∣ c ⇒ Refused NoRoom ∣ To (at + sizeAll vs)) ≡ Refused a → (not b ⇒ out ∣ c ⇒ out ∣ sets out at (bytesAll vs)) ≡ out
-      go false c e = refl
-      go true true e = refl
-      go true false e = let z : _≡_ {A = ℕ} 0 1 = cc in absurd (omega arith)
+module _ (vs : List ℕ) where
+  -- a row in range has its bytes, and another is 109 whatever the room
+  pub in-range : inRange vs ≡ true → rowDraft vs ≡ Bytes (bytesAll vs)
+  unfolding rowDraft
+  in-range h = rw h
 
-  -- what is accepted is in range and stands at the place
-  pub accepted : {n : ℕ} → wroteRowOf (length out) at vs ≡ To n → RowWritten out at vs n
-  unfolding wroteRowOf outRowOf
-  accepted {n} = go (inRange vs) refl (ltb (length out) (at + sizeAll vs)) refl
-    where
-      go : (b : Bool) → inRange vs ≡ b → (c : Bool) → ltb (length out) (at + sizeAll vs) ≡ c → (not b ⇒ Refused Unwritable ∣ c ⇒ Refused NoRoom ∣ To (at + sizeAll vs)) ≡ To n → RowWritten out at vs n
-      go false p c q e = let z : _≡_ {A = ℕ} 0 1 = cc in absurd (omega arith)
-      go true p true q e = let z : _≡_ {A = ℕ} 0 1 = cc in absurd (omega arith)
-      go true p false q e =
-          let h : outRowOf out at vs ≡ sets out at (bytesAll vs) = simp (p, q) in
-          record { range = p; ends = cc; holds = h; stands = rw h (stored out at (bytesAll vs) (rw (length-all vs) (ltb-false _ _ q))) }
+  pub out-of-range : inRange vs ≡ false → rowDraft vs ≡ Never Unwritable
+  unfolding rowDraft
+  out-of-range h = rw h
 
-  -- what is written reads back as the same numbers, up to the place that was answered
-  pub written : {n : ℕ} → wroteRowOf (length out) at vs ≡ To n → ReadAs (outRowOf out at vs) at vs n
-  written {n} e =
-      let a = accepted e in
-      subst (ReadAs (outRowOf out at vs) at vs) (sym (a .ends)) (reads (outRowOf out at vs) vs at (a .range) (a .stands))
+module _ (vs out : List ℕ) (at : ℕ) {r : Wrote} {after : List ℕ} (e : (r, after) ≡ writes (rowDraft vs) out at) {n : ℕ} (p : r ≡ To n) where
+  -- what is accepted is in range, and its bytes were written
+  pub accepted : (inRange vs ≡ true) × Written (bytesAll vs) out at n after
+  unfolding rowDraft
+  accepted =
+      let q = past (not (inRange vs)) Unwritable (Bytes (bytesAll vs)) out at e p in
+      (not-false (inRange vs) (q .0), bytes-written (bytesAll vs) out at (q .1) p)
+
+  -- and it reads back as the same numbers, up to the place that was answered
+  pub written : ReadAs after at vs n
+  written =
+      let a = accepted in
+      subst (ReadAs after at vs) (sym (a .1 .ends ∙ rw (length-all vs))) (reads after vs at (a .0) (a .1 .stands))

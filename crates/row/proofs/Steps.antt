@@ -12,10 +12,12 @@ use lib.ListN.{length, getD, drop}
 use lib.Seq.{sets, drop-cons, drop-length}
 use Rattle.answers.specs.declared.Answer.{Answer}
 use Rattle.wire.specs.Number.{bytesOf, sizeOf}
-use Rattle.wire.specs.Wrote.{wroteOf, outOf}
+use Rattle.wire.specs.Writing.{writes, numberDraft}
+use Rattle.wire.specs.declared.Wrote.{Wrote}
 use Rattle.wire.specs.declared.Wrote.the-variants.{To, Refused}
 use Rattle.wire.proofs.Standing.{sets-append}
-use Rattle.wire.proofs.Exit.{accepts, accepted, same-length, length-bytes}
+use Rattle.wire.proofs.Writing.{same-length}
+use Rattle.wire.proofs.Exit.{length-bytes, unrefused, accepted}
 use Rattle.row.specs.Row.{inRange, sizeAll, bytesAll}
 
 module _ (vs : List ℕ) (i : ℕ) where
@@ -48,32 +50,31 @@ pub record Left (out₀ : List ℕ) (at : ℕ) (vs out : List ℕ) (place i : �
 
 module _ (out₀ : List ℕ) (at : ℕ) (vs out : List ℕ) (place i : ℕ) (l : Left out₀ at vs out place i) (h : i < length vs) where
   -- the next number is in range and has room
-  in-range : (leb (getD vs i 0) (2 ^ 62 - 1) ≡ true) × (inRange (drop (i + 1) vs) ≡ true)
-  in-range = and-eq-true-iff (leb (getD vs i 0) (2 ^ 62 - 1)) (inRange (drop (i + 1) vs)) .0 (sym (range-step vs i h) ∙ l .range)
+  both : (leb (getD vs i 0) (2 ^ 62 - 1) ≡ true) × (inRange (drop (i + 1) vs) ≡ true)
+  both = and-eq-true-iff (leb (getD vs i 0) (2 ^ 62 - 1)) (inRange (drop (i + 1) vs)) .0 (sym (range-step vs i h) ∙ l .range)
 
   low : getD vs i 0 < 2 ^ 62
-  low = omega (arith, leb-true (getD vs i 0) (2 ^ 62 - 1) (in-range .0))
+  low = omega (arith, leb-true (getD vs i 0) (2 ^ 62 - 1) (both .0))
 
-  fits : place + sizeOf (getD vs i 0) ≤ length out
-  fits = omega (arith, size-step vs i h, l .size, l .long, l .room)
+  fits : place + length (bytesOf (getD vs i 0)) ≤ length out
+  fits = omega (arith, length-bytes (getD vs i 0), size-step vs i h, l .size, l .long, l .room)
 
-  pub unrefused : {a : Answer} → wroteOf (length out) place (getD vs i 0) ≡ Refused a → ⊥
-  unrefused e =
-      let p = accepts out place (getD vs i 0) low fits in
-      let z : _≡_ {A = ℕ} 0 1 = cc in omega arith
+  -- the next number, written: it is not refused, and leaves one number less
+  module _ {r : Wrote} {after : List ℕ} (e : (r, after) ≡ writes (numberDraft (getD vs i 0)) out place) where
+    pub never-refused : {a : Answer} → r ≡ Refused a → ⊥
+    never-refused = unrefused (getD vs i 0) out place e low fits
 
-  -- one number more
-  pub turn : {next : ℕ} → wroteOf (length out) place (getD vs i 0) ≡ To next → Left out₀ at vs (outOf out place (getD vs i 0)) next (i + 1)
-  turn e =
-      let a = accepted out place (getD vs i 0) e in
-      record {
-        within = omega arith;
-        range = in-range .1;
-        size = omega (arith, a .ends, size-step vs i h, l .size);
-        long = same-length out place (getD vs i 0) ∙ l .long;
-        room = l .room;
-        rest = rw (a .holds, a .ends, ← length-bytes (getD vs i 0)) (sym (sets-append out place (bytesOf (getD vs i 0)) (bytesAll (drop (i + 1) vs))) ∙ rw (← bytes-step vs i h) (l .rest));
-      }
+    pub turn : {next : ℕ} → r ≡ To next → Left out₀ at vs after next (i + 1)
+    turn p =
+        let a = accepted (getD vs i 0) out place e p .1 in
+        record {
+          within = omega arith;
+          range = both .1;
+          size = omega (arith, a .ends, length-bytes (getD vs i 0), size-step vs i h, l .size);
+          long = same-length (numberDraft (getD vs i 0)) out place e ∙ l .long;
+          room = l .room;
+          rest = rw (a .holds, a .ends) (sym (sets-append out place (bytesOf (getD vs i 0)) (bytesAll (drop (i + 1) vs))) ∙ rw (← bytes-step vs i h) (l .rest));
+        }
 
 -- all numbers are written
 pub finished : (out₀ : List ℕ) (at : ℕ) (vs out : List ℕ) (place i : ℕ) → Left out₀ at vs out place i → length vs ≤ i → (place ≡ at + sizeAll vs) × (out ≡ sets out₀ at (bytesAll vs))

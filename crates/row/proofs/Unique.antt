@@ -1,4 +1,4 @@
--- The contracts of `in_range` and `write` are firm: each is an equation of the answer, and `write`'s of the output too.
+-- The contracts of `in_range` and `write` are firm: each is an equation of the answer, and `write`'s of the answer and the output.
 -- Assumes nothing.
 use mathlib.Core.Path.{sym, _∙_}
 use mathlib.Core.List.{List}
@@ -15,4 +15,4 @@ pub in-range-firm : FirmAnswer 1 in-range.ps in-range.r ranging.Asked ranging.Po
 in-range-firm = record { asks-nothing = λ κs a. tt; one-outcome = λ κs a x y s t p q. p ∙ sym q }
 
 pub write-firm : Firm 2 write.ps write.r writing.Asked writing.Post (λ κs. Wrote × List ℕ) (λ κs x s. (x, now (s .0)))
-write-firm = record { asks-nothing = λ κs a. tt; one-outcome = λ κs a x y s t p q. λ i. ((p .0 ∙ sym (q .0)) i, (p .1 ∙ sym (q .1)) i) }
+write-firm = record { asks-nothing = λ κs a. tt; one-outcome = λ κs a x y s t p q. p ∙ sym q }

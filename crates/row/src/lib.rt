@@ -4,7 +4,8 @@ ghost use mathlib.Core.Bool.{true};
 ghost use Prim.Native.Nat.{_+_, _≤_};
 ghost use lib.ListN.{length};
 ghost use lib.Seq.{sets};
-ghost use Rattle.row.specs.Row.{inRange, sizeAll, bytesAll, wroteRowOf, outRowOf};
+ghost use Rattle.row.specs.Row.{inRange, sizeAll, bytesAll, rowDraft};
+ghost use Rattle.wire.specs.Writing.{writes};
 use answers::Answer;
 use wire::Wrote;
 
@@ -54,7 +55,7 @@ fn put(out: &mut [u8], at: usize, numbers: &[u64]) -> usize
 
 // Writes the shortest forms of all the numbers from a place on. A refusal leaves the output untouched.
 pub fn write(out: &mut [u8], at: usize, numbers: &[u64]) -> Wrote
-    ensures { λ r. ⌜ (r ≡ wroteRowOf (length (now (out .entry))) at (now (numbers .entry))) × (now (out .exit) ≡ outRowOf (now (out .entry)) at (now (numbers .entry))) ⌝ }
+    ensures { λ r. ⌜ (r, now (out .exit)) ≡ writes (rowDraft (now (numbers .entry))) (now (out .entry)) at ⌝ }
 {
     if !in_range(numbers) {
         return Wrote::Refused {

@@ -1,6 +1,6 @@
 -- The fields of a row: how long they are at most, how they make the row, and what stands at the front of a line that they were written to.
 -- Assumes nothing.
-use mathlib.Core.Path.{_≡_, refl, sym, _∙_}
+use mathlib.Core.Path.{_≡_, refl, sym, _∙_, ap}
 use mathlib.Core.List.{List, [], _∷_, _++_, append-assoc}
 use Prim.Native.Nat.{ℕ, zero, suc, _+_, _/_, _≤_, _<_}
 use native.Mathlib.Omega.{arith}
@@ -9,10 +9,11 @@ use lib.ListN.{length, set, take, replicate, length-append}
 use lib.Seq.{sets, sets-eq, length-sets, take-append-seam}
 use Rattle.answers.proofs.Choice.{holds}
 use Rattle.answers.specs.declared.Answer.{Answer}
+use Rattle.wire.specs.Writing.{Bytes, writes, Written}
+use Rattle.wire.specs.declared.Wrote.{Wrote}
 use Rattle.wire.specs.declared.Wrote.the-variants.{To, Refused}
 use Rattle.wire.proofs.Standing.{sets-append}
-use Rattle.text.specs.Text.{wroteTextOf, outTextOf}
-use Rattle.text.proofs.Steps.{accepted}
+use Rattle.wire.proofs.Writing.{all-written, bytes-written, bytes-unrefused}
 use Rattle.text.specs.Decimal.{digitsOf, decimalOf}
 use Rattle.rows.specs.Row.{fieldOf, typeOf, shownOf, rowOf}
 use Rattle.rows.specs.Listing.{closedText}
@@ -52,26 +53,23 @@ shown-size (Is ty) = rw shown-number (field-size ty 32)
 shown-size Unread = rw shown-dash (omega arith)
 
 -- where there is room for the longest field, a number is written, and the byte behind it makes it a field
-module _ (line : List ℕ) (at n : ℕ) (room : at + 21 ≤ length line) where
-  wrote : (wroteTextOf (length line) at (decimalOf n) ≡ To (at + length (decimalOf n))) × (outTextOf line at (decimalOf n) ≡ sets line at (decimalOf n))
-  wrote = accepted line at (decimalOf n) (omega (arith, decimal-size n))
+module _ (line : List ℕ) (at n : ℕ) (room : at + 21 ≤ length line) {r : Wrote} {after : List ℕ} (e : (r, after) ≡ writes (Bytes (decimalOf n)) line at) where
+  pub unrefused : {a : Answer} → r ≡ Refused a → ⊥
+  unrefused = bytes-unrefused (decimalOf n) line at e (omega (arith, decimal-size n))
 
-  pub unrefused : {a : Answer} → wroteTextOf (length line) at (decimalOf n) ≡ Refused a → ⊥
-  unrefused e = let f = wrote .0 in let z : _≡_ {A = ℕ} 0 1 = cc in absurd (omega arith)
-
-  module _ {next : ℕ} (e : wroteTextOf (length line) at (decimalOf n) ≡ To next) where
-    ends : next ≡ at + length (decimalOf n)
-    ends = let f = wrote .0 in cc
+  module _ {next : ℕ} (p : r ≡ To next) where
+    wrote : Written (decimalOf n) line at next after
+    wrote = bytes-written (decimalOf n) line at e p
 
     pub next-within : next < length line
-    next-within = omega (arith, ends, decimal-size n)
+    next-within = omega (arith, wrote .ends, decimal-size n)
 
-    pub next-stored : next < length (outTextOf line at (decimalOf n))
-    next-stored = rw (wrote .1, length-sets) next-within
+    pub next-stored : next < length after
+    next-stored = rw (wrote .holds, length-sets) next-within
 
-    pub field-written : (behind : ℕ) → (next + 1 ≡ at + length (fieldOf n behind)) × (set (outTextOf line at (decimalOf n)) next behind ≡ sets line at (fieldOf n behind))
+    pub field-written : (behind : ℕ) → (next + 1 ≡ at + length (fieldOf n behind)) × (set after next behind ≡ sets line at (fieldOf n behind))
     unfolding fieldOf
-    field-written behind = (omega (arith, ends, length-append (decimalOf n) (behind ∷ [])), rw (wrote .1, ends) (sym (sets-append line at (decimalOf n) (behind ∷ []))))
+    field-written behind = (omega (arith, wrote .ends, length-append (decimalOf n) (behind ∷ [])), rw (wrote .holds, wrote .ends) (sym (sets-append line at (decimalOf n) (behind ∷ []))))
 
 -- a line that was blank and now begins with l, of k bytes at most
 record Begun (blank l : List ℕ) (k to : ℕ) (line : List ℕ) : Type 0 where
@@ -139,10 +137,10 @@ module _ (place : ℕ) (ty : Shown) (code total : ℕ) where
           row-front = front whole (omega arith) ∙ row-fields
 
 -- the last line of a connection that was closed with a code: the text, and the code behind it
-module _ (code : ℕ) {la : List ℕ} (ea : la ≡ outTextOf (replicate 42 0) 0 closedText) where
+module _ (code : ℕ) {r : Wrote} {la : List ℕ} (ea : (r, la) ≡ writes (Bytes closedText) (replicate 42 0) 0) where
   with-text : Begun (replicate 42 0) closedText 21 7 la
   unfolding closedText
-  with-text = more (begin (replicate 42 0)) closedText (omega arith) (refl, ea ∙ accepted (replicate 42 0) 0 closedText (omega arith) .1)
+  with-text = more (begin (replicate 42 0)) closedText (omega arith) (refl, ap (λ (o : Wrote × List ℕ). o .1) (ea ∙ all-written (replicate 42 0) 0 closedText (omega arith)))
 
   pub room-for-number : 7 + 21 ≤ length la
   room-for-number = room with-text (omega arith)

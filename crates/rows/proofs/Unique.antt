@@ -18,16 +18,16 @@ use Rattle.rows.proofs.taken.ending.Kinds as ending
 use Rattle.rows.proofs.taken.ending.Reads as ending-reads
 
 pub row-firm : Firm 1 row.ps row.r row-reads.Asked row-reads.Post (λ κs. Wrote × List ℕ) (λ κs x s. (x, now (s .0)))
-row-firm = record { asks-nothing = λ κs a. tt; one-outcome = λ κs a x y s t p q. λ i. ((p .0 ∙ sym (q .0)) i, (p .1 ∙ sym (q .1)) i) }
+row-firm = record { asks-nothing = λ κs a. tt; one-outcome = λ κs a x y s t p q. p ∙ sym q }
 
 pub too-long-firm : FirmAnswer 0 too-long.ps too-long.r too-long-reads.Asked too-long-reads.Post
 too-long-firm = record { asks-nothing = λ κs a. tt; one-outcome = λ κs a x y s t p q. p ∙ sym q }
 
 pub taken-row-firm : Firm 1 taken-row.ps taken-row.r taken-row-reads.Asked taken-row-reads.Post (λ κs. Wrote × List ℕ) (λ κs x s. (x, now (s .0)))
-taken-row-firm = record { asks-nothing = λ κs a. tt; one-outcome = λ κs a x y s t p q. λ i. ((p .0 ∙ sym (q .0)) i, (p .1 ∙ sym (q .1)) i) }
+taken-row-firm = record { asks-nothing = λ κs a. tt; one-outcome = λ κs a x y s t p q. p ∙ sym q }
 
 pub after-firm : FirmAnswer 0 after.ps after.r after-reads.Asked after-reads.Post
 after-firm = record { asks-nothing = λ κs a. tt; one-outcome = λ κs a x y s t p q. p ∙ sym q }
 
 pub ending-firm : Firm 1 ending.ps ending.r ending-reads.Asked ending-reads.Post (λ κs. Wrote × List ℕ) (λ κs x s. (x, now (s .0)))
-ending-firm = record { asks-nothing = λ κs a. tt; one-outcome = λ κs a x y s t p q. λ i. ((p .0 ∙ sym (q .0)) i, (p .1 ∙ sym (q .1)) i) }
+ending-firm = record { asks-nothing = λ κs a. tt; one-outcome = λ κs a x y s t p q. p ∙ sym q }

@@ -5,7 +5,7 @@ ghost use mathlib.Core.Path.{_≡_};
 ghost use Prim.Native.Nat.{_+_, _≤_};
 ghost use lib.ListN.{length};
 ghost use lib.Seq.{sets};
-ghost use Rattle.text.specs.Text.{wroteTextOf, outTextOf};
+ghost use Rattle.wire.specs.Writing.{Bytes, writes};
 ghost use Rattle.rows.specs.Row.{fieldOf, shownOf, rowOf};
 use text::decimal;
 use text::put;
@@ -49,7 +49,7 @@ fn shown_type(line: &mut [u8], at: usize, ty: Shown) -> usize
 
 // Writes a row at a place. A refusal leaves the output untouched.
 pub fn row(out: &mut [u8], at: usize, place: usize, ty: Shown, code: u64, total: u64) -> Wrote
-    ensures { λ r. ⌜ (r ≡ wroteTextOf (length (now (out .entry))) at (rowOf place ty code total)) × (now (out .exit) ≡ outTextOf (now (out .entry)) at (rowOf place ty code total)) ⌝ }
+    ensures { λ r. ⌜ (r, now (out .exit)) ≡ writes (Bytes (rowOf place ty code total)) (now (out .entry)) at ⌝ }
 {
     let mut line = [0u8; MOST];
     let after_place = field(&mut line, 0, place as u64, b' ');

@@ -1,8 +1,7 @@
 // What the listing writes of a frame that was taken, where it goes on, and its last line.
 ghost use mathlib.Core.Path.{_≡_};
 ghost use mathlib.Core.List.{_++_};
-ghost use lib.ListN.{length};
-ghost use Rattle.text.specs.Text.{wroteTextOf, outTextOf};
+ghost use Rattle.wire.specs.Writing.{Bytes, writes};
 ghost use Rattle.rows.specs.Row.{fieldOf};
 ghost use Rattle.rows.specs.Listing.{tooLong, typeShown, takenRowOf, afterOf, closedText, endingOf};
 use crate::Shown;
@@ -35,7 +34,7 @@ fn shown(handed: Handed) -> Shown
 
 // Writes the row of a frame at a place of the output. A refusal leaves the output untouched.
 pub fn taken_row(out: &mut [u8], at: usize, place: usize, took: TookFrame) -> Wrote
-    ensures { λ r. ⌜ (r ≡ wroteTextOf (length (now (out .entry))) at (takenRowOf place took)) × (now (out .exit) ≡ outTextOf (now (out .entry)) at (takenRowOf place took)) ⌝ }
+    ensures { λ r. ⌜ (r, now (out .exit)) ≡ writes (Bytes (takenRowOf place took)) (now (out .entry)) at ⌝ }
 {
     let handed = took.handed;
     let ty = shown(handed);
@@ -68,7 +67,7 @@ pub fn after(took: TookFrame, end: usize) -> usize
 
 // The last line of a connection that was closed with a code.
 fn closed(out: &mut [u8], at: usize, code: u64) -> Wrote
-    ensures { λ r. ⌜ (r ≡ wroteTextOf (length (now (out .entry))) at (closedText ++ fieldOf code 10)) × (now (out .exit) ≡ outTextOf (now (out .entry)) at (closedText ++ fieldOf code 10)) ⌝ }
+    ensures { λ r. ⌜ (r, now (out .exit)) ≡ writes (Bytes (closedText ++ fieldOf code 10)) (now (out .entry)) at ⌝ }
 {
     let mut line = [0u8; 42];
     put::bytes(&mut line, 0, b"closed ");
@@ -78,7 +77,7 @@ fn closed(out: &mut [u8], at: usize, code: u64) -> Wrote
 
 // Writes the last line: how the connection stands. A refusal leaves the output untouched.
 pub fn ending(out: &mut [u8], at: usize, mark: Mark) -> Wrote
-    ensures { λ r. ⌜ (r ≡ wroteTextOf (length (now (out .entry))) at (endingOf mark)) × (now (out .exit) ≡ outTextOf (now (out .entry)) at (endingOf mark)) ⌝ }
+    ensures { λ r. ⌜ (r, now (out .exit)) ≡ writes (Bytes (endingOf mark)) (now (out .entry)) at ⌝ }
 {
     match mark {
         Mark::Open => put::bytes(out, at, b"open\n"),

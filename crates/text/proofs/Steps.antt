@@ -1,6 +1,6 @@
 -- What is left of a text from a place on: the character there and the rest; and nothing at its end.
 -- Assumes nothing.
-use mathlib.Core.Path.{_≡_, refl, sym, _∙_, ap}
+use mathlib.Core.Path.{_≡_, sym, _∙_, ap}
 use mathlib.Core.Bool.{Bool, _&&_}
 use mathlib.Core.List.{List, [], _∷_}
 use Prim.Native.Nat.{ℕ, _+_, _-_, _≤_, _<_}
@@ -11,9 +11,7 @@ use lib.ListN.{length, getD, drop, set, drop-of-length-le}
 use lib.Seq.{sets, drop-cons}
 use borrow.Author.Tests.{le-leb, lt-leb}
 use Rattle.answers.proofs.Choice.{below-or-not}
-use Rattle.answers.specs.declared.Answer.the-variants.{NoRoom}
-use Rattle.wire.specs.declared.Wrote.the-variants.{To, Refused}
-use Rattle.text.specs.Text.{wroteTextOf, outTextOf, every}
+use Rattle.text.specs.Text.{every}
 
 module _ (l : List ℕ) (i : ℕ) (h : i < length l) where
   pub step : drop i l ≡ getD l i 0 ∷ drop (i + 1) l
@@ -35,12 +33,3 @@ pub room : (n at size : ℕ) → at ≤ n → leb size (n - at) ≡ leb (at + si
 room n at size h = below-or-not (n - at) size
     (λ p. lt-leb size (n - at) p ∙ sym (lt-leb (at + size) n (omega arith)))
     (λ p. le-leb size (n - at) p ∙ sym (le-leb (at + size) n (omega arith)))
-
-module _ (out : List ℕ) (at : ℕ) (l : List ℕ) where
-  pub accepted : at + length l ≤ length out → (wroteTextOf (length out) at l ≡ To (at + length l)) × (outTextOf out at l ≡ sets out at l)
-  unfolding wroteTextOf outTextOf
-  accepted h = simp (le-leb (at + length l) (length out) h) (refl, refl)
-
-  pub refused : length out < at + length l → (wroteTextOf (length out) at l ≡ Refused NoRoom) × (outTextOf out at l ≡ out)
-  unfolding wroteTextOf outTextOf
-  refused h = simp (lt-leb (at + length l) (length out) h) (refl, refl)

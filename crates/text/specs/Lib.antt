@@ -1,4 +1,2 @@
 pub mod Text
 pub mod Decimal
-pub mod Hex
-pub mod Words

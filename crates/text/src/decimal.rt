@@ -1,7 +1,6 @@
 // Numbers in decimal digits.
 ghost use mathlib.Core.Path.{_≡_};
-ghost use lib.ListN.{length};
-ghost use Rattle.text.specs.Text.{wroteTextOf, outTextOf};
+ghost use Rattle.wire.specs.Writing.{Bytes, writes};
 ghost use Rattle.text.specs.Decimal.{decimalOf, parsedOf};
 use crate::put;
 use wire::Wrote;
@@ -17,7 +16,7 @@ const MOST: u64 = 18446744073709551615;
 
 // Writes a number at a place, in no more digits than it has. A refusal leaves the output untouched.
 pub fn write(out: &mut [u8], at: usize, n: u64) -> Wrote
-    ensures { λ r. ⌜ (r ≡ wroteTextOf (length (now (out .entry))) at (decimalOf n)) × (now (out .exit) ≡ outTextOf (now (out .entry)) at (decimalOf n)) ⌝ }
+    ensures { λ r. ⌜ (r, now (out .exit)) ≡ writes (Bytes (decimalOf n)) (now (out .entry)) at ⌝ }
 {
     let mut digits = [0u8; 20];
     digits[19] = (48 + n % 10) as u8;

@@ -1,5 +1,3 @@
-// Text, read and written: plain bytes, decimal numbers, bytes in hexadecimal, and words of a line.
+// Text, written and read: plain bytes and decimal numbers.
 pub mod decimal;
-pub mod hex;
 pub mod put;
-pub mod words;

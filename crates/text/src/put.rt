@@ -2,8 +2,7 @@
 ghost use mathlib.Core.Path.{_≡_};
 ghost use Prim.Native.Nat.{_+_};
 ghost use lib.Dec.{leb};
-ghost use lib.ListN.{length};
-ghost use Rattle.text.specs.Text.{wroteTextOf, outTextOf};
+ghost use Rattle.wire.specs.Writing.{Bytes, writes};
 use answers::Answer;
 use wire::Wrote;
 
@@ -19,7 +18,7 @@ pub(crate) fn fits(n: usize, at: usize, size: usize) -> bool
 
 // Writes a text at a place. A refusal leaves the output untouched.
 pub fn bytes(out: &mut [u8], at: usize, text: &[u8]) -> Wrote
-    ensures { λ r. ⌜ (r ≡ wroteTextOf (length (now (out .entry))) at (now (text .entry))) × (now (out .exit) ≡ outTextOf (now (out .entry)) at (now (text .entry))) ⌝ }
+    ensures { λ r. ⌜ (r, now (out .exit)) ≡ writes (Bytes (now (text .entry))) (now (out .entry)) at ⌝ }
 {
     if !fits(out.len(), at, text.len()) {
         return Wrote::Refused {

@@ -1,26 +1,22 @@
--- What a write leaves: untouched after a refusal; else as long as before, the same outside of the number, and the number reads back.
+-- A number that is written: how many bytes it has, when it has a form at all, and that it reads back.
 -- Assumes nothing.
-use mathlib.Core.Path.{_≡_, refl, _∙_}
-use mathlib.Core.Bool.{Bool, true, false}
-use mathlib.Core.List.{List, [], _∷_}
-use mathlib.Core.Logic.{_⊎_, inl, inr, ⊎-elim}
-use Prim.Native.Nat.{ℕ, suc, _+_, _-_, _*_, _^_, _≤_, _<_}
+use mathlib.Core.Path.{_≡_}
+use mathlib.Core.List.{List}
+use Prim.Native.Nat.{ℕ, _+_, _-_, _*_, _^_, _≤_, _<_}
 use native.Mathlib.Omega.{arith}
 use borrow.Author.Tests.{ltb-false, lt-ltb, le-ltb}
 use lib.Dec.{ltb}
-use lib.ListN.{length, getD, set}
-use lib.Seq.{sets, length-sets, getD-set-other}
-use Rattle.answers.specs.Choice.{_⇒_∣_}
+use lib.ListN.{length}
 use Rattle.answers.specs.declared.Answer.{Answer}
-use Rattle.answers.specs.declared.Answer.the-variants.{NoRoom, Unwritable}
-use Rattle.answers.proofs.Choice.{holds}
+use Rattle.answers.specs.declared.Answer.the-variants.{Unwritable}
 use Rattle.wire.specs.Number.{numberAt, sizeOf, bytesOf, formOf, valuesIn}
-use Rattle.wire.specs.Wrote.{wroteOf, outOf, Accepted}
+use Rattle.wire.specs.Writing.{Bytes, Never, writes, numberDraft, Written}
+use Rattle.wire.specs.declared.Wrote.{Wrote}
 use Rattle.wire.specs.declared.Wrote.the-variants.{To, Refused}
 use Rattle.wire.specs.declared.Number.the-variants.{Is}
 use Rattle.wire.proofs.BigEndian.{length-spelled}
-use Rattle.wire.proofs.Standing.{stored}
 use Rattle.wire.proofs.Back.{back, by-size}
+use Rattle.wire.proofs.Writing.{past, bytes-written, bytes-unrefused}
 
 pub length-bytes : (v : ℕ) → length (bytesOf v) ≡ sizeOf v
 unfolding bytesOf
@@ -30,55 +26,30 @@ pub size-bounds : (v : ℕ) → (0 < sizeOf v) × (sizeOf v ≤ 8)
 unfolding sizeOf
 size-bounds v = by-size v (λ (f : ℕ). (0 < 2 ^ f) × (2 ^ f ≤ 8)) (λ h. omega arith) (λ h k. omega arith) (λ h k. omega arith) (λ h. omega arith)
 
--- a run of stores leaves what is outside of it
-pub sets-other : (l : List ℕ) (at : ℕ) (vs : List ℕ) (i : ℕ) → (i < at) ⊎ (at + length vs ≤ i) → getD (sets l at vs) i 0 ≡ getD l i 0
-sets-other l at [] i h = refl
-sets-other l at (x ∷ vs) i h =
-    sets-other (set l at x) (suc at) vs i (⊎-elim (λ p. inl (omega arith)) (λ q. inr (omega arith)) h)
-    ∙ getD-set-other l at i x 0 (⊎-elim (λ p. omega arith) (λ q. omega arith) h)
+module _ (v : ℕ) where
+  -- a value in range has its bytes, and another is 109 whatever the room
+  pub in-range : v < 2 ^ 62 → numberDraft v ≡ Bytes (bytesOf v)
+  unfolding numberDraft
+  in-range h = simp (le-ltb (2 ^ 62 - 1) v (omega arith))
 
-module _ (out : List ℕ) (at v : ℕ) where
-  pub refused : {a : Answer} → wroteOf (length out) at v ≡ Refused a → outOf out at v ≡ out
-  unfolding wroteOf outOf
-  refused {a} = go (ltb (2 ^ 62 - 1) v) (ltb (length out) (at + sizeOf v))
-    where
-      go : (b c : Bool) → (b ⇒ Refused Unwritable ∣ c ⇒ Refused NoRoom ∣ To (at + sizeOf v)) ≡ Refused a → (b ⇒ out ∣ c ⇒ out ∣ sets out at (bytesOf v)) ≡ out
-      go true c e = refl
-      go false true e = refl
-      go false false e = let z : _≡_ {A = ℕ} 0 1 = cc in absurd (omega arith)
+  pub out-of-range : 2 ^ 62 - 1 < v → numberDraft v ≡ Never Unwritable
+  unfolding numberDraft
+  out-of-range h = simp (lt-ltb (2 ^ 62 - 1) v h)
 
-  pub accepted : {n : ℕ} → wroteOf (length out) at v ≡ To n → Accepted out at v n
-  unfolding wroteOf outOf
-  accepted {n} = go (ltb (2 ^ 62 - 1) v) refl (ltb (length out) (at + sizeOf v)) refl
-    where
-      go : (b : Bool) → ltb (2 ^ 62 - 1) v ≡ b → (c : Bool) → ltb (length out) (at + sizeOf v) ≡ c → (b ⇒ Refused Unwritable ∣ c ⇒ Refused NoRoom ∣ To (at + sizeOf v)) ≡ To n → Accepted out at v n
-      go true p c q e = let z : _≡_ {A = ℕ} 0 1 = cc in absurd (omega arith)
-      go false p true q e = let z : _≡_ {A = ℕ} 0 1 = cc in absurd (omega arith)
-      go false p false q e =
-          record { low = omega (arith, ltb-false (2 ^ 62 - 1) v p); ends = cc; room = ltb-false _ _ q; holds = simp (p, q) }
+module _ (v : ℕ) (out : List ℕ) (at : ℕ) {r : Wrote} {after : List ℕ} (e : (r, after) ≡ writes (numberDraft v) out at) where
+  -- a value in range is not refused where there is room for it
+  pub unrefused : v < 2 ^ 62 → at + length (bytesOf v) ≤ length out → {a : Answer} → r ≡ Refused a → ⊥
+  unrefused h = bytes-unrefused (bytesOf v) out at (rw (in-range v h) at e)
 
-  -- a value in range at a place with room is accepted
-  pub accepts : v < 2 ^ 62 → at + sizeOf v ≤ length out → wroteOf (length out) at v ≡ To (at + sizeOf v)
-  unfolding wroteOf
-  accepts h k = simp (le-ltb (2 ^ 62 - 1) v (omega arith), le-ltb _ _ k)
+  -- what is accepted is in range, and its shortest form was written
+  pub accepted : {n : ℕ} → r ≡ To n → (v < 2 ^ 62) × Written (bytesOf v) out at n after
+  unfolding numberDraft
+  accepted p =
+      let q = past (ltb (2 ^ 62 - 1) v) Unwritable (Bytes (bytesOf v)) out at e p in
+      (omega (arith, ltb-false (2 ^ 62 - 1) v (q .0)), bytes-written (bytesOf v) out at (q .1) p)
 
-  -- 109 comes before 108: however short the output is, a value above 2^62-1 answers 109
-  pub range-first : (n : ℕ) → 2 ^ 62 - 1 < v → wroteOf n at v ≡ Refused Unwritable
-  unfolding wroteOf
-  range-first n h = simp (lt-ltb (2 ^ 62 - 1) v h)
-
-  pub same-length : length (outOf out at v) ≡ length out
-  unfolding outOf
-  same-length =
-      holds (λ (l : List ℕ). length l ≡ length out) (ltb (2 ^ 62 - 1) v) _ _ (λ e. refl) (λ e.
-      holds (λ (l : List ℕ). length l ≡ length out) (ltb (length out) (at + sizeOf v)) _ _ (λ f. refl) (λ f. length-sets out at (bytesOf v)))
-
-  pub written : {n : ℕ} → wroteOf (length out) at v ≡ To n → numberAt (outOf out at v) at ≡ Is v n
-  written e =
-      let a = accepted e in
-      rw (a .holds, a .ends) (back (sets out at (bytesOf v)) at v (a .low) (stored out at (bytesOf v) (rw (length-bytes v) (a .room))))
-
-  pub kept : {n : ℕ} → wroteOf (length out) at v ≡ To n → (i : ℕ) → (i < at) ⊎ (n ≤ i) → getD (outOf out at v) i 0 ≡ getD out i 0
-  kept e i h =
-      let a = accepted e in
-      rw (a .holds) (sets-other out at (bytesOf v) i (⊎-elim inl (λ q. inr (omega (arith, a .ends, length-bytes v))) h))
+  -- and it reads back
+  pub reads : {n : ℕ} → r ≡ To n → numberAt after at ≡ Is v n
+  reads p =
+      let a = accepted p in
+      rw (a .1 .ends, length-bytes v) (back after at v (a .0) (a .1 .stands))

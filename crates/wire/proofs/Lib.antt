@@ -3,6 +3,7 @@ pub mod BigEndian
 pub mod Forms
 pub mod Sound
 pub mod Back
+pub mod Writing
 pub mod Exit
 pub mod Shortest
 pub mod Unique

@@ -1,3 +1,3 @@
 pub mod Number
 pub mod Sound
-pub mod Wrote
+pub mod Writing

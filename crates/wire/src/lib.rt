@@ -4,7 +4,7 @@ ghost use Prim.Native.Nat.{_+_, _-_, _≤_, _<_, _^_};
 ghost use lib.ListN.{length};
 ghost use lib.Seq.{sets};
 ghost use Rattle.wire.specs.Number.{bigEndian, spelled, numberAt, bytesOf, sizeOf};
-ghost use Rattle.wire.specs.Wrote.{wroteOf, outOf};
+ghost use Rattle.wire.specs.Writing.{writes, numberDraft};
 use answers::Answer;
 
 // What reading a number at a place finds: its value and the place after it, or an end of the bytes before its own.
@@ -151,7 +151,7 @@ fn room(n: usize, at: usize) -> usize
 
 // Writes the shortest form of v at a place. A refusal leaves the output untouched, and so does acceptance outside of v's bytes.
 pub fn write(out: &mut [u8], at: usize, v: u64) -> Wrote
-    ensures { λ r. ⌜ (r ≡ wroteOf (length (now (out .entry))) at v) × (now (out .exit) ≡ outOf (now (out .entry)) at v) ⌝ }
+    ensures { λ r. ⌜ (r, now (out .exit)) ≡ writes (numberDraft v) (now (out .entry)) at ⌝ }
 {
     if MOST < v {
         return Wrote::Refused {

@@ -7,10 +7,4 @@ pub mod Tails
 pub mod Copies
 pub mod Listing
 pub mod Spelling
-pub mod Writes
-pub mod Standing
-pub mod Found
-pub mod Back
-pub mod Readers
-pub mod Exact
 pub mod Unique

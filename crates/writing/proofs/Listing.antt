@@ -8,16 +8,17 @@ use lib.ListN.{length}
 use lib.Seq.{sets}
 use Rattle.answers.specs.declared.Answer.{Answer}
 use Rattle.wire.specs.Number.{numberAt, bytesOf, sizeOf}
-use Rattle.wire.specs.Wrote.{wroteOf, outOf}
+use Rattle.wire.specs.Writing.{writes, numberDraft}
 use Rattle.wire.specs.declared.Number.the-variants.{Is, CutShort}
+use Rattle.wire.specs.declared.Wrote.{Wrote}
 use Rattle.wire.specs.declared.Wrote.the-variants.{To, Refused}
 use Rattle.wire.proofs.Sound.{sound}
 use Rattle.wire.proofs.Standing.{sets-append}
-use Rattle.wire.proofs.Exit.{length-bytes, same-length}
+use Rattle.wire.proofs.Writing.{same-length}
+use Rattle.wire.proofs.Exit.{length-bytes, unrefused, accepted}
 use Rattle.row.specs.Row.{sizeAll, bytesAll}
 use Rattle.ranges.specs.Listed.{listed}
 use Rattle.ranges.proofs.Listed.{listed-step}
-use Rattle.writing.proofs.Ones.{unrefused, done}
 
 module _ (s : List ℕ) (at : ℕ) where
   pub listed-none : (n : ℕ) → n ≤ 0 → listed s at n ≡ []
@@ -50,22 +51,22 @@ pub record Left (out₀ : List ℕ) (at : ℕ) (vs s out : List ℕ) (place to l
 
 module _ (out₀ : List ℕ) (at : ℕ) (vs s out : List ℕ) (place to left : ℕ) (l : Left out₀ at vs s out place to left) where
   module _ {v next : ℕ} (h : 0 < left) (e : numberAt s place ≡ Is v next) where
-    -- the next number is in range and has room
-    pub never-refused : {a : Answer} → wroteOf (length out) to v ≡ Refused a → ⊥
-    never-refused =
-        unrefused out to v (sound s place e .low)
-        (omega (arith, length-bytes v, size-more s place left h e, l .size, l .long, l .room))
+    -- the number, written: it is not refused, and leaves one less
+    module _ {r : Wrote} {after : List ℕ} (f : (r, after) ≡ writes (numberDraft v) out to) where
+      pub never-refused : {a : Answer} → r ≡ Refused a → ⊥
+      never-refused =
+          unrefused v out to f (sound s place e .low)
+          (omega (arith, length-bytes v, size-more s place left h e, l .size, l .long, l .room))
 
-    -- one number more
-    pub turn : {after : ℕ} → wroteOf (length out) to v ≡ To after → Left out₀ at vs s (outOf out to v) next after (left - 1)
-    turn f =
-        let a = done out to v f in
-        record {
-          size = omega (arith, a .0, length-bytes v, size-more s place left h e, l .size);
-          long = same-length out to v ∙ l .long;
-          room = l .room;
-          rest = rw (a .1, a .0) (sym (sets-append out to (bytesOf v) (bytesAll (listed s next (left - 1)))) ∙ rw (← bytes-more s place left h e) (l .rest));
-        }
+      pub turn : {n : ℕ} → r ≡ To n → Left out₀ at vs s after next n (left - 1)
+      turn p =
+          let a = accepted v out to f p .1 in
+          record {
+            size = omega (arith, a .ends, length-bytes v, size-more s place left h e, l .size);
+            long = same-length (numberDraft v) out to f ∙ l .long;
+            room = l .room;
+            rest = rw (a .holds, a .ends) (sym (sets-append out to (bytesOf v) (bytesAll (listed s next (left - 1)))) ∙ rw (← bytes-more s place left h e) (l .rest));
+          }
 
   -- nothing is left
   pub finished : listed s place left ≡ [] → (to ≡ at + sizeAll vs) × (out ≡ sets out₀ at (bytesAll vs))

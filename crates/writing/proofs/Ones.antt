@@ -1,29 +1,13 @@
--- One number more in an output: in range and with room for it, it is written; and what four numbers in a row are each.
+-- Numbers in range are each in range: the first and the others, and four of them.
 -- Assumes nothing.
 use mathlib.Core.Path.{_≡_}
 use mathlib.Core.Bool.{true, and-eq-true-iff}
 use mathlib.Core.List.{List, [], _∷_}
-use Prim.Native.Nat.{ℕ, _+_, _-_, _^_, _≤_, _<_}
+use Prim.Native.Nat.{ℕ, _-_, _^_, _<_}
 use native.Mathlib.Omega.{arith}
 use borrow.Author.Tests.{leb-true}
 use lib.Dec.{leb}
-use lib.ListN.{length}
-use lib.Seq.{sets}
-use Rattle.answers.specs.declared.Answer.{Answer}
-use Rattle.wire.specs.Number.{bytesOf}
-use Rattle.wire.specs.Wrote.{wroteOf, outOf}
-use Rattle.wire.specs.declared.Wrote.the-variants.{To, Refused}
-use Rattle.wire.proofs.Exit.{length-bytes, accepts, accepted}
 use Rattle.row.specs.Row.{inRange}
-
-module _ (out : List ℕ) (at v : ℕ) where
-  pub unrefused : v < 2 ^ 62 → at + length (bytesOf v) ≤ length out → {a : Answer} → wroteOf (length out) at v ≡ Refused a → ⊥
-  unrefused h k e =
-      let p = accepts out at v h (rw (length-bytes v) at k) in
-      let z : _≡_ {A = ℕ} 0 1 = cc in omega arith
-
-  pub done : {next : ℕ} → wroteOf (length out) at v ≡ To next → (next ≡ at + length (bytesOf v)) × (outOf out at v ≡ sets out at (bytesOf v))
-  done e = let a = accepted out at v e in (rw (length-bytes v) (a .ends), a .holds)
 
 -- the first of numbers in range, and the others
 pub first-in-range : (v : ℕ) (vs : List ℕ) → inRange (v ∷ vs) ≡ true → (v < 2 ^ 62) × (inRange vs ≡ true)

@@ -5,11 +5,14 @@ use mathlib.Core.Bool.{true, false, not, _&&_, and-eq-true-iff}
 use mathlib.Core.List.{[], _∷_}
 use Prim.Native.Nat.{_^_, _<_}
 use borrow.Author.Tests.{not-true}
+use Rattle.answers.specs.declared.Answer.the-variants.{Unwritable}
+use Rattle.wire.specs.Writing.{Bytes, Never}
 use Rattle.row.specs.Row.{inRange}
 use Rattle.frames.specs.Layout.{layoutOf}
 use Rattle.frames.specs.Faults.{faultOf}
 use Rattle.writing.specs.Content.{Content}
 use Rattle.writing.specs.Taken.{takes, fitting}
+use Rattle.writing.specs.Spelled.{spelledFrame, frameDraft}
 use Rattle.writing.proofs.Ones.{first-in-range}
 
 module _ (f : Content) where
@@ -29,6 +32,15 @@ module _ (f : Content) where
       → takes f ≡ fitting (layoutOf (f .ty) .tail) (f .a) (f .c) (f .d) (f .body)
   unfolding takes
   fine e g h = rw (e, g, h)
+
+  -- what is to be written of it
+  pub unwritable : takes f ≡ false → frameDraft f ≡ Never Unwritable
+  unfolding frameDraft
+  unwritable e = rw e
+
+  pub writable : takes f ≡ true → frameDraft f ≡ Bytes (spelledFrame f)
+  unfolding frameDraft
+  writable e = rw e
 
 -- the parts of `takes`
 pub record Taken (f : Content) : Type 0 where

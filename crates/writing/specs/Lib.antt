@@ -2,5 +2,4 @@ pub mod Parts
 pub mod Content
 pub mod Taken
 pub mod Spelled
-pub mod Wrote
 pub mod Again

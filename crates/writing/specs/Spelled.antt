@@ -1,16 +1,20 @@
 -- The bytes of a frame: its layout filled with its contents, every number in its shortest form.
 use mathlib.Core.Path.{_≡_}
 use Prim.Native.Nat.{ℕ, _^_, _<_}
-use mathlib.Core.Bool.{Bool, true, false}
+use mathlib.Core.Bool.{Bool, true, false, not}
 use mathlib.Core.List.{List, [], _∷_, _++_}
 use lib.Dec.{ltb}
+use Rattle.answers.specs.Choice.{_⇒_∣_}
+use Rattle.answers.specs.declared.Answer.the-variants.{Unwritable}
 use Rattle.wire.specs.Number.{bytesOf}
+use Rattle.wire.specs.Writing.{Draft, Bytes, Never}
 use Rattle.row.specs.Row.{bytesAll}
 use Rattle.frames.specs.Layout.{layoutOf}
 use Rattle.frames.specs.declared.Parts.{Parts}
 use Rattle.frames.specs.declared.Tail.{Tail}
 use Rattle.frames.specs.declared.Tail.the-variants.{Nothing, Counted, Remainder, Eight, Identity, Ranges}
 use Rattle.writing.specs.Content.{Content, wholeOf}
+use Rattle.writing.specs.Taken.{takes}
 
 -- a number if it is there
 abbrev pub bytesIf : Bool → ℕ → List ℕ
@@ -34,6 +38,12 @@ unfoldable pub spelledFrame : Content → List ℕ
 spelledFrame f =
     let l = layoutOf (f .ty) in
     bytesOf (f .ty) ++ (fourBytes (l .numbers) (f .a) (f .b) (f .c) (f .d) ++ (bodyBytes (l .tail) (f .len) (f .body) (f .token) ++ fourBytes (l .after) (f .x) (f .y) (f .z) 0))
+
+-- a frame: one that cannot be written is 109
+unfoldable pub frameDraft : Content → Draft
+frameDraft f =
+    not (takes f) ⇒ Never Unwritable
+    ∣ Bytes (spelledFrame f)
 
 -- a connection ID's length fits into its byte
 abbrev pub InByte : Tail → ℕ → Type 0

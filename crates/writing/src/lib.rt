@@ -11,8 +11,8 @@ ghost use lib.ListN.{length};
 ghost use lib.Seq.{sets};
 ghost use Rattle.writing.specs.Content.{contentOf, contents};
 ghost use Rattle.writing.specs.Taken.{takes};
-ghost use Rattle.writing.specs.Spelled.{spelledFrame};
-ghost use Rattle.writing.specs.Wrote.{wroteFrameOf, outFrameOf};
+ghost use Rattle.writing.specs.Spelled.{spelledFrame, frameDraft};
+ghost use Rattle.wire.specs.Writing.{writes};
 use answers::Answer;
 use frames::Frame;
 use frames::Parts;
@@ -44,7 +44,7 @@ fn put(p: Parts, s: &[u8], out: &mut [u8], at: usize) -> usize
 
 // Writes a frame at a place. A refusal leaves the output untouched.
 pub fn write(frame: Frame, s: &[u8], out: &mut [u8], at: usize) -> Wrote
-    ensures { λ r. ⌜ (r ≡ wroteFrameOf (length (now (out .entry))) at (contents (now (s .entry)) frame)) × (now (out .exit) ≡ outFrameOf (now (out .entry)) at (contents (now (s .entry)) frame)) ⌝ }
+    ensures { λ r. ⌜ (r, now (out .exit)) ≡ writes (frameDraft (contents (now (s .entry)) frame)) (now (out .entry)) at ⌝ }
 {
     let p = split::apart(frame);
     if !checks::writable(p, s) {

@@ -39,7 +39,7 @@ loop-again c =
     let l = i .before .loop in
     let s = now (i .before .before .before .before .args .s) in
     let row = o .one-more in
-    (search needs, rw (row .ensures .0, row .ensures .1) (goes-on (l .now) s (l .out) (l .left) (omega arith) (r .before .before .if1 .left) (omega arith) ∙ l .inv .1))
+    (search needs, goes-on (l .now) s (l .out) (l .left) (omega arith) (r .before .before .if1 .left) (omega arith) (row .ensures) ∙ l .inv .1)
 
 returns-3 : tie.Need-returns-3 Inv-loop μ-loop
 unfolding pageOf

@@ -1,10 +1,10 @@
 -- `pages::one_more` meets its contract: the frame is taken, and what writing its row answers decides, as in the definition.
 -- Assumes nothing.
-use mathlib.Core.Path.{sym, _∙_, ap}
+use mathlib.Core.Path.{ap}
 use borrow.Author.Needs.{needs}
 use denote.Ref.{now}
 use Rattle.pages.specs.Pages.{withRow}
-use Rattle.pages.proofs.Filling.{by-row, by-out}
+use Rattle.pages.proofs.Filling.{by-row}
 use Rattle.pages.proofs.one_more.Statement.{statement}
 use Rattle.pages.proofs.one_more.Tie as tie
 
@@ -14,10 +14,7 @@ returns c =
     let r = c .before .before .before .before in
     let f = r .before .before .before in
     let a = f .before .before .before .before .before .args in
-    let h = f .take-frame .result in (
-      ap (withRow _ (now (a .s)) h) (sym (c .enum-told .given .1)) ∙ by-row _ _ (now (a .out)) h (f .take-frame .ensures) _ (r .taken-row .result) (r .taken-row .ensures .0),
-      r .taken-row .ensures .1 ∙ by-out _ _ (now (a .out)) h (f .take-frame .ensures),
-    )
+    by-row _ _ (now (a .out)) _ (f .take-frame .ensures) (r .taken-row .ensures) (ap (withRow _ (now (a .s)) (f .take-frame .result)) (c .enum-told .given .1))
 
 returns-2 : tie.Need-returns-2
 unfolding withRow
@@ -26,10 +23,7 @@ returns-2 c =
     let r = n .before .before .before .before in
     let f = r .before .before .before in
     let a = f .before .before .before .before .before .args in
-    let h = f .take-frame .result in (
-      rw (c .after .ensures) (ap (withRow _ (now (a .s)) h) (sym (n .next .given .1))) ∙ by-row _ _ (now (a .out)) h (f .take-frame .ensures) _ (r .taken-row .result) (r .taken-row .ensures .0),
-      r .taken-row .ensures .1 ∙ by-out _ _ (now (a .out)) h (f .take-frame .ensures),
-    )
+    rw (c .after .ensures) (by-row _ _ (now (a .out)) _ (f .take-frame .ensures) (r .taken-row .ensures) (ap (withRow _ (now (a .s)) (f .take-frame .result)) (n .next .given .1)))
 
 pub one-more-spec : {M : Type 1} → statement M
 one-more-spec =

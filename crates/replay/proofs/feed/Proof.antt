@@ -25,7 +25,7 @@ used c =
     let l = c .before .before .before .before .before in
     let s = now (l .before .before .args .s) in
     let e = length-drop (l .loop .at) s in
-    let u = rw (rest-of s (l .loop .at)) at (uses (take (length s - l .loop .at) (drop (l .loop .at) s)) _ _ (c .before .gather .result) (c .before .gather .ensures .0)) in
+    let u = rw (rest-of s (l .loop .at)) at (uses (take (length s - l .loop .at) (drop (l .loop .at) s)) _ _ (c .before .gather .ensures)) in
     let v = u (omega arith) in
     (v .0, omega arith)
 

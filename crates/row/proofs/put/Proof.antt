@@ -1,10 +1,10 @@
 -- `row::put` meets its contract: writing those from the place on is writing all, and each turn writes one, for which there is room.
 -- Assumes nothing.
-use mathlib.Core.Path.{refl, sym, _∙_}
+use mathlib.Core.Path.{refl}
 use Prim.Native.Nat.{_-_}
 use borrow.Author.Needs.{needs}
 use lib.ListN.{length}
-use Rattle.row.proofs.Steps.{Left, turn, finished, unrefused}
+use Rattle.row.proofs.Steps.{Left, never-refused, turn, finished}
 use Rattle.row.proofs.put.Statement.{statement}
 use Rattle.row.proofs.put.Tie as tie
 
@@ -20,15 +20,22 @@ loop-holds c =
     record { within = search needs; range = s .pre .0; size = refl; long = refl; room = s .pre .1; rest = refl }
 
 same-length : tie.Need-same-length Inv-loop μ-loop
-same-length c = absurd (unrefused _ _ _ _ _ _ (c .before .before .before .before .before .before .before .before .loop .inv) (c .before .before .before .before .before .before .before .loop-test .taken) (sym (c .before .before .before .before .write .ensures .0) ∙ c .enum-told .given .1))
+same-length c =
+    let w = c .before .before .before .before in
+    let l = w .before .before .before in
+    absurd (never-refused _ _ _ _ _ _ (l .before .loop .inv) (l .loop-test .taken) (w .write .ensures) (c .enum-told .given .1))
 
 returns : tie.Need-returns Inv-loop μ-loop
-returns c = absurd (unrefused _ _ _ _ _ _ (c .before .before .before .before .before .before .before .before .loop .inv) (c .before .before .before .before .before .before .before .loop-test .taken) (sym (c .before .before .before .before .write .ensures .0) ∙ c .enum-told .given .1))
+returns c =
+    let w = c .before .before .before .before in
+    let l = w .before .before .before in
+    absurd (never-refused _ _ _ _ _ _ (l .before .loop .inv) (l .loop-test .taken) (w .write .ensures) (c .enum-told .given .1))
 
 loop-again : tie.Need-loop-again Inv-loop μ-loop
 loop-again c =
-    rw (c .before .before .before .before .before .write .ensures .1)
-    (turn _ _ _ _ _ _ (c .before .before .before .before .before .before .before .before .before .loop .inv) (c .before .before .before .before .before .before .before .before .loop-test .taken) (sym (c .before .before .before .before .before .write .ensures .0) ∙ c .before .next .given .1))
+    let w = c .before .before .before .before .before in
+    let l = w .before .before .before in
+    turn _ _ _ _ _ _ (l .before .loop .inv) (l .loop-test .taken) (w .write .ensures) (c .before .next .given .1)
 
 same-length-2 : tie.Need-same-length-2 Inv-loop μ-loop
 same-length-2 c = c .before .loop .inv .long

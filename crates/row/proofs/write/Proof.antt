@@ -1,41 +1,44 @@
 -- `row::write` meets its contract: each refusal is the first test that holds, and what is put are all the shortest forms.
 -- Assumes nothing.
 use borrow.Author.Needs.{needs}
-use mathlib.Core.Path.{refl, sym, _∙_}
+use mathlib.Core.Path.{sym, _∙_}
 use native.Mathlib.Omega.{arith}
-use Prim.Native.Nat.{_+_}
-use lib.ListN.{length}
+use borrow.Author.Tests.{not-true, not-false}
 use denote.Ref.{now}
-use Rattle.row.specs.Row.{sizeAll, wroteRowOf, outRowOf}
-use borrow.Author.Tests.{lt-ltb, le-ltb, not-true, not-false}
+use Rattle.wire.proofs.Writing.{never, no-room, all-written}
+use Rattle.row.specs.Row.{bytesAll}
+use Rattle.row.proofs.Back.{length-all, in-range, out-of-range}
 use Rattle.row.proofs.write.Statement.{statement}
 use Rattle.row.proofs.write.Tie as tie
 
 returns : tie.Need-returns
-unfolding wroteRowOf outRowOf
-returns c = simp (sym (c .before .in-range .ensures) ∙ not-true _ (c .if1 .taken)) (refl, refl)
+returns c = rw (out-of-range _ (sym (c .before .in-range .ensures) ∙ not-true _ (c .if1 .taken))) (sym (never _ _ _))
 
 returns-2 : tie.Need-returns-2
-unfolding wroteRowOf outRowOf
 returns-2 c =
     let a = c .before .before .before .before .before .args in
-    simp (sym (c .before .before .in-range .ensures) ∙ not-false _ (c .before .if1 .left), lt-ltb (length (now (a .out))) (a .at + sizeAll (now (a .numbers))) (omega arith)) (refl, refl)
+    rw (in-range _ (sym (c .before .before .in-range .ensures) ∙ not-false _ (c .before .if1 .left)))
+    (sym (no-room (now (a .out)) (a .at) (bytesAll (now (a .numbers))) (omega arith)))
 
 returns-3 : tie.Need-returns-3
-unfolding wroteRowOf outRowOf
 returns-3 c =
-    let a = c .before .before .before .before .before .before .before .args in
-    simp (sym (c .before .before .before .before .in-range .ensures) ∙ not-false _ (c .before .before .before .if1 .left), lt-ltb (length (now (a .out))) (a .at + sizeAll (now (a .numbers))) (omega (arith, c .before .size .ensures))) (refl, refl)
+    let z = c .before in
+    let r = z .before .before .before in
+    let a = r .before .before .before .args in
+    rw (in-range _ (sym (r .in-range .ensures) ∙ not-false _ (z .before .before .if1 .left)))
+    (sym (no-room (now (a .out)) (a .at) (bytesAll (now (a .numbers))) (omega (arith, z .size .ensures, length-all (now (a .numbers))))))
 
 put-requires : tie.Need-put-requires
 put-requires c κs = (sym (c .before .before .before .before .before .in-range .ensures) ∙ not-false _ (c .before .before .before .before .if1 .left), omega (arith, c .before .before .size .ensures))
 
 returns-4 : tie.Need-returns-4
-unfolding wroteRowOf outRowOf
 returns-4 c =
-    let a = c .before .before .before .before .before .before .before .before .before .before .before .args in
-    simp (sym (c .before .before .before .before .before .before .before .before .in-range .ensures) ∙ not-false _ (c .before .before .before .before .before .before .before .if1 .left), le-ltb (length (now (a .out))) (a .at + sizeAll (now (a .numbers))) (omega (arith, c .before .before .before .before .before .size .ensures)), c .before .before .put .ensures .0)
-    (refl, c .before .before .put .ensures .1)
+    let p = c .before .before in
+    let z = p .before .before .before in
+    let r = z .before .before .before in
+    let a = r .before .before .before .args in
+    let n = length-all (now (a .numbers)) in
+    rw (in-range _ (sym (r .in-range .ensures) ∙ not-false _ (z .before .before .if1 .left)), all-written (now (a .out)) (a .at) (bytesAll (now (a .numbers))) (omega (arith, z .size .ensures, n)), n, p .put .ensures .0, p .put .ensures .1)
 
 pub write-spec : {M : Type 1} → statement M
 write-spec =

@@ -1,9 +1,7 @@
 -- `field` meets its contract: there is room for the number, and the byte behind it makes the field.
 -- Assumes nothing.
-use mathlib.Core.Path.{sym, _∙_}
 use native.Mathlib.Omega.{arith}
 use borrow.Author.Needs.{needs}
-use denote.Ref.{now}
 use Rattle.rows.proofs.Fields.{unrefused, next-within, next-stored, field-written}
 use Rattle.rows.proofs.field.Statement.{statement}
 use Rattle.rows.proofs.field.Tie as tie
@@ -12,25 +10,25 @@ returns : tie.Need-returns
 returns c =
     let w = c .before .before .before .before in
     let s = w .before .before .before in
-    absurd (unrefused (now (s .args .line)) (s .args .at) (s .args .n) (s .pre) (sym (w .write .ensures .0) ∙ c .enum-told .given .1))
+    absurd (unrefused _ _ (s .args .n) (s .pre) (w .write .ensures) (c .enum-told .given .1))
 
 slice-write-line : tie.Need-slice-write-line
 slice-write-line c =
     let w = c .before .before .before .before .before in
     let s = w .before .before .before in
-    rw (w .write .ensures .1) (next-stored (now (s .args .line)) (s .args .at) (s .args .n) (s .pre) (sym (w .write .ensures .0) ∙ c .before .next .given .1))
+    next-stored _ _ (s .args .n) (s .pre) (w .write .ensures) (c .before .next .given .1)
 
 add-result : tie.Need-add-result
 add-result c =
     let w = c .before .before .before .before .before in
     let s = w .before .before .before in
-    omega (arith, next-within (now (s .args .line)) (s .args .at) (s .args .n) (s .pre) (sym (w .write .ensures .0) ∙ c .before .next .given .1))
+    omega (arith, next-within _ _ (s .args .n) (s .pre) (w .write .ensures) (c .before .next .given .1))
 
 returns-2 : tie.Need-returns-2
 returns-2 c =
     let w = c .before .before .before .before .before in
     let s = w .before .before .before in
-    rw (w .write .ensures .1) (field-written (now (s .args .line)) (s .args .at) (s .args .n) (s .pre) (sym (w .write .ensures .0) ∙ c .before .next .given .1) (s .args .behind))
+    field-written _ _ (s .args .n) (s .pre) (w .write .ensures) (c .before .next .given .1) (s .args .behind)
 
 pub field-spec : {M : Type 1} → statement M
 field-spec =

@@ -1,11 +1,8 @@
 -- `row` meets its contract: each field has room behind those before it, together they are the row, and the front of the line is what is put.
 -- Assumes nothing.
-use mathlib.Core.Path.{sym, _∙_, ap}
+use mathlib.Core.Path.{sym}
 use borrow.Author.Needs.{needs}
-use lib.ListN.{length}
-use denote.Ref.{now}
 use lib.Seq.{length-take-le}
-use Rattle.text.specs.Text.{wroteTextOf, outTextOf}
 use Rattle.rows.proofs.Fields.{room-for-type, room-for-code, room-for-total, row-within, row-front}
 use Rattle.rows.proofs.row.Statement.{statement}
 use Rattle.rows.proofs.row.Tie as tie
@@ -52,7 +49,7 @@ returns c =
     let k = h .before .before .before in
     let a = k .before .before .before .args in
     let e = row-front (a .place) (a .ty) (a .code) (a .total) (k .field .ensures) (h .shown-type .ensures) (g .field2 .ensures) (f .field3 .ensures) in
-    (b .bytes .ensures .0 ∙ ap (wroteTextOf (length (now (a .out))) (a .at)) e, b .bytes .ensures .1 ∙ ap (outTextOf (now (a .out)) (a .at)) e)
+    rw e at (b .bytes .ensures)
 
 pub row-spec : {M : Type 1} → statement M
 row-spec =

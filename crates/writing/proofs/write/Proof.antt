@@ -1,28 +1,27 @@
 -- `writing::write` meets its contract: it asks what the definition asks, in the same order, and stores the frame's bytes where there is room for them.
 -- Assumes nothing.
-use mathlib.Core.Path.{sym, _∙_, ap}
+use mathlib.Core.Path.{sym, _∙_}
 use native.Mathlib.Omega.{arith}
 use borrow.Author.Needs.{needs}
 use borrow.Author.Tests.{not-true, not-false}
-use Rattle.wire.specs.declared.Wrote.the-variants.{To}
+use Rattle.wire.proofs.Writing.{never, no-room, all-written}
 use Rattle.writing.specs.Content.{contentOf}
+use Rattle.writing.specs.Spelled.{spelledFrame}
 use Rattle.writing.proofs.Bounds.{type-known}
-use Rattle.writing.proofs.Writes.{unwritable, no-room, all-written}
+use Rattle.writing.proofs.Taking.{writable, unwritable}
 use Rattle.writing.proofs.write.Statement.{statement}
 use Rattle.writing.proofs.write.Tie as tie
 
 returns : tie.Need-returns
-returns c =
-    let p = c .before .before in
-    let a = p .before .before .before .args in
-    rw (← p .apart .ensures) (unwritable (a .out .now) (a .at) (contentOf (a .s .now) (p .apart .result)) (sym (c .before .writable .ensures) ∙ not-true _ (c .if1 .taken)))
+returns c = rw (← c .before .before .apart .ensures, unwritable _ (sym (c .before .writable .ensures) ∙ not-true _ (c .if1 .taken))) (sym (never _ _ _))
 
 returns-2 : tie.Need-returns-2
 returns-2 c =
     let w = c .before .before in
     let p = w .before in
     let a = p .before .before .before .args in
-    rw (← p .apart .ensures) (no-room (a .out .now) (a .at) (contentOf (a .s .now) (p .apart .result)) (sym (w .writable .ensures) ∙ not-false _ (c .before .if1 .left)) (omega arith))
+    rw (← p .apart .ensures, writable _ (sym (w .writable .ensures) ∙ not-false _ (c .before .if1 .left)))
+    (sym (no-room (a .out .now) (a .at) (spelledFrame (contentOf (a .s .now) (p .apart .result))) (omega arith)))
 
 size-requires : tie.Need-size-requires
 size-requires c κs = sym (c .before .before .writable .ensures) ∙ not-false _ (c .before .if1 .left)
@@ -33,8 +32,8 @@ returns-3 c =
     let w = z .before .before .before in
     let p = w .before in
     let a = p .before .before .before .args in
-    rw (← p .apart .ensures)
-    (no-room (a .out .now) (a .at) (contentOf (a .s .now) (p .apart .result)) (sym (w .writable .ensures) ∙ not-false _ (z .before .before .if1 .left)) (omega (arith, z .size .ensures)))
+    rw (← p .apart .ensures, writable _ (sym (w .writable .ensures) ∙ not-false _ (z .before .before .if1 .left)))
+    (sym (no-room (a .out .now) (a .at) (spelledFrame (contentOf (a .s .now) (p .apart .result))) (omega (arith, z .size .ensures))))
 
 put-requires : tie.Need-put-requires
 put-requires c κs =
@@ -53,8 +52,7 @@ returns-4 c =
     let w = z .before .before .before in
     let p = w .before in
     let a = p .before .before .before .args in
-    let d = all-written (a .out .now) (a .at) (contentOf (a .s .now) (p .apart .result)) (sym (w .writable .ensures) ∙ not-false _ (z .before .before .if1 .left)) (omega (arith, z .size .ensures)) in
-    rw (← p .apart .ensures) (ap To (u .put .ensures .0) ∙ d .0, u .put .ensures .1 ∙ d .1)
+    rw (← p .apart .ensures, writable _ (sym (w .writable .ensures) ∙ not-false _ (z .before .before .if1 .left)), all-written (a .out .now) (a .at) (spelledFrame (contentOf (a .s .now) (p .apart .result))) (omega (arith, z .size .ensures)), u .put .ensures .0, u .put .ensures .1)
 
 pub write-spec : {M : Type 1} → statement M
 write-spec =

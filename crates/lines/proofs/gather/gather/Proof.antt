@@ -1,11 +1,8 @@
 -- `gather::gather` meets its contract: the piece goes up to the place found, and a newline is there exactly if that is not the end.
 -- Assumes nothing.
-use mathlib.Core.Path.{_∙_, ap}
 use borrow.Author.Needs.{needs}
 use denote.Ref.{now}
-use lib.ListN.{length}
-use Rattle.lines.specs.Gathered.{rowOf, pieceOf}
-use Rattle.lines.proofs.Finding.{up-to, within}
+use Rattle.lines.proofs.Finding.{within}
 use Rattle.lines.proofs.Gathering.{ended-line, open-line}
 use Rattle.lines.proofs.gather.gather.Statement.{statement}
 use Rattle.lines.proofs.gather.gather.Tie as tie
@@ -14,26 +11,18 @@ part-grown-end : tie.Need-part-grown-end
 part-grown-end c = within (now (c .before .before .before .before .args .s)) 10 (c .before .line-end .result) (c .before .line-end .ensures)
 
 returns : tie.Need-returns
-unfolding pieceOf
 returns c =
     let g = c .before .before .before in
     let e = g .before .before .before in
     let a = e .before .before .before .args in
-    let s = now (a .s) in (
-      ended-line (length (now (a .row))) (a .line) (g .grown .result) s (e .line-end .result) (e .line-end .ensures) (g .grown .ensures .0) (c .if1 .taken),
-      g .grown .ensures .1 ∙ ap (rowOf (now (a .row)) (a .line)) (up-to s 10 (e .line-end .result) (e .line-end .ensures)),
-    )
+    ended-line (a .line) (now (a .s)) (now (a .row)) (e .line-end .result) (e .line-end .ensures) (g .grown .ensures) (c .if1 .taken)
 
 returns-2 : tie.Need-returns-2
-unfolding pieceOf
 returns-2 c =
     let g = c .before .before .before in
     let e = g .before .before .before in
     let a = e .before .before .before .args in
-    let s = now (a .s) in (
-      open-line (length (now (a .row))) (a .line) (g .grown .result) s (e .line-end .result) (e .line-end .ensures) (g .grown .ensures .0) (c .if1 .left),
-      g .grown .ensures .1 ∙ ap (rowOf (now (a .row)) (a .line)) (up-to s 10 (e .line-end .result) (e .line-end .ensures)),
-    )
+    open-line (a .line) (now (a .s)) (now (a .row)) (e .line-end .result) (e .line-end .ensures) (g .grown .ensures) (c .if1 .left)
 
 pub gather-spec : {M : Type 1} → statement M
 gather-spec =

@@ -1,34 +1,30 @@
 -- `gather::grown` meets its contract: what writing the piece behind the line answers and leaves is what the line and the row become.
 -- Assumes nothing.
-use mathlib.Core.Path.{refl, sym, _∙_, ap}
+use mathlib.Core.Path.{ap}
 use borrow.Author.Needs.{needs}
 use denote.Ref.{now}
-use Rattle.lines.specs.Gathered.{grownOf, rowOf}
-use Rattle.lines.proofs.Gathering.{lineAfter, as-written}
+use Rattle.lines.specs.Gathered.{lineAfter, grownOf}
+use Rattle.lines.proofs.Gathering.{as-written}
 use Rattle.lines.proofs.gather.grown.Statement.{statement}
 use Rattle.lines.proofs.gather.grown.Tie as tie
 
 returns : tie.Need-returns
-unfolding grownOf rowOf
-returns c = rw (c .enum-told .given .1) (refl, refl)
+unfolding grownOf
+returns c = rw (c .enum-told .given .1)
 
 returns-2 : tie.Need-returns-2
-unfolding rowOf
 returns-2 c =
     let b = c .before .before .before .before in
     let k = b .before .before in
     let a = k .before .before .before .before .before .args in
-    rw (k .before .line .given .1)
-    (sym (ap lineAfter (c .enum-told2 .given .1)) ∙ as-written _ _ (now (a .piece)) (b .bytes .result) (b .bytes .ensures .0), b .bytes .ensures .1)
+    rw (k .before .line .given .1) (as-written _ (now (a .piece)) (now (a .row)) (b .bytes .ensures) (ap lineAfter (c .enum-told2 .given .1)))
 
 returns-3 : tie.Need-returns-3
-unfolding rowOf
 returns-3 c =
     let b = c .before .before .before .before .before in
     let k = b .before .before in
     let a = k .before .before .before .before .before .args in
-    rw (k .before .line .given .1)
-    (sym (ap lineAfter (c .before .next .given .1)) ∙ as-written _ _ (now (a .piece)) (b .bytes .result) (b .bytes .ensures .0), b .bytes .ensures .1)
+    rw (k .before .line .given .1) (as-written _ (now (a .piece)) (now (a .row)) (b .bytes .ensures) (ap lineAfter (c .before .next .given .1)))
 
 pub grown-spec : {M : Type 1} → statement M
 grown-spec =

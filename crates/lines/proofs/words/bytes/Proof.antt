@@ -1,20 +1,20 @@
 -- `words::bytes` meets its contract: the test for "-" is the definition's, and any other word is read as pairs.
 -- Assumes nothing.
-use mathlib.Core.Path.{refl, sym, _∙_}
+use mathlib.Core.Path.{sym, _∙_}
 use borrow.Author.Needs.{needs}
-use Rattle.lines.specs.Words.{isNone, bytesOf, outBytesOf}
+use Rattle.lines.specs.Words.{isNone, bytesOf}
 use Rattle.lines.proofs.words.bytes.Statement.{statement}
 use Rattle.lines.proofs.words.bytes.Tie as tie
 
 returns : tie.Need-returns
-unfolding isNone bytesOf outBytesOf
-returns c = simp (sym (c .before .same .ensures) ∙ c .if1 .taken) (refl, refl)
+unfolding isNone bytesOf
+returns c = simp (sym (c .before .same .ensures) ∙ c .if1 .taken)
 
 returns-2 : tie.Need-returns-2
-unfolding isNone bytesOf outBytesOf
+unfolding isNone bytesOf
 returns-2 c =
     let r = c .before .before in
-    simp (sym (r .before .before .before .same .ensures) ∙ r .before .before .if1 .left) (r .read .ensures .0, r .read .ensures .1)
+    simp (sym (r .before .before .before .same .ensures) ∙ r .before .before .if1 .left) (r .read .ensures)
 
 pub bytes-spec : {M : Type 1} → statement M
 bytes-spec =

@@ -1,11 +1,8 @@
 -- `taken::closed` meets its contract: the code stands behind the text, and the front of the line is what is put.
 -- Assumes nothing.
-use mathlib.Core.Path.{sym, _∙_, ap}
+use mathlib.Core.Path.{sym}
 use borrow.Author.Needs.{needs}
-use denote.Ref.{now}
-use lib.ListN.{length}
 use lib.Seq.{length-take-le}
-use Rattle.text.specs.Text.{wroteTextOf, outTextOf}
 use Rattle.rows.specs.Listing.{closedText}
 use Rattle.rows.proofs.Fields.{room-for-number, closed-within, closed-front}
 use Rattle.rows.proofs.taken.closed.Statement.{statement}
@@ -15,14 +12,14 @@ field-requires : tie.Need-field-requires
 unfolding closedText
 field-requires c κs =
     let t = c .before .before in
-    room-for-number (t .before .before .before .before .args .code) (t .bytes .ensures .1)
+    room-for-number (t .before .before .before .before .args .code) (t .bytes .ensures)
 
 array-share-prefix-line : tie.Need-array-share-prefix-line
 unfolding closedText
 array-share-prefix-line c =
     let f = c .before .before in
     let t = f .before .before .before in
-    closed-within (t .before .before .before .before .args .code) (t .bytes .ensures .1) (f .field .ensures)
+    closed-within (t .before .before .before .before .args .code) (t .bytes .ensures) (f .field .ensures)
 
 slice-aggregate-bytes : tie.Need-slice-aggregate-bytes-3
 slice-aggregate-bytes c = sym (length-take-le _ _ (array-share-prefix-line (c .before)))
@@ -34,8 +31,8 @@ returns c =
     let f = b .before .before .before .before in
     let t = f .before .before .before in
     let a = t .before .before .before .before .args in
-    let e = closed-front (a .code) (t .bytes .ensures .1) (f .field .ensures) in
-    (b .bytes2 .ensures .0 ∙ ap (wroteTextOf (length (now (a .out))) (a .at)) e, b .bytes2 .ensures .1 ∙ ap (outTextOf (now (a .out)) (a .at)) e)
+    let e = closed-front (a .code) (t .bytes .ensures) (f .field .ensures) in
+    rw e at (b .bytes2 .ensures)
 
 pub closed-spec : {M : Type 1} → statement M
 closed-spec =

@@ -9,20 +9,20 @@ returns : tie.Need-returns
 unfolding endingOf
 returns c =
     let b = c .before .before in
-    rw (b .before .before .before .enum-told .given .1) (b .bytes .ensures .0, b .bytes .ensures .1)
+    rw (b .before .before .before .enum-told .given .1) (b .bytes .ensures)
 
 returns-2 : tie.Need-returns-2
 unfolding endingOf
 returns-2 c =
     let d = c .before .before in
     let n = d .before in
-    rw (n .before .before .before .mark .given .1, ← n .number .ensures) (d .closed .ensures .0, d .closed .ensures .1)
+    rw (n .before .before .before .mark .given .1, ← n .number .ensures) (d .closed .ensures)
 
 returns-3 : tie.Need-returns-3
 unfolding closedText endingOf
 returns-3 c =
     let b = c .before .before in
-    rw (b .before .before .before .enum-told2 .given .1) (b .bytes2 .ensures .0, b .bytes2 .ensures .1)
+    rw (b .before .before .before .enum-told2 .given .1) (b .bytes2 .ensures)
 
 pub ending-spec : {M : Type 1} → statement M
 ending-spec =

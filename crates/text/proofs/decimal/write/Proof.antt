@@ -1,13 +1,11 @@
 -- `decimal::write` meets its contract: the digits that are left and those that are spelled make all of them, and when none are left the text is complete.
 -- Assumes nothing.
-use mathlib.Core.Path.{_≡_, refl, sym, _∙_, ap}
+use mathlib.Core.Path.{_≡_, refl, sym, _∙_}
 use mathlib.Core.List.{_++_}
 use Prim.Native.Nat.{suc, _≤_, _<_, _+_, _-_, _^_}
 use native.Mathlib.Omega.{arith}
 use borrow.Author.Needs.{needs}
 use lib.ListN.{length, take, drop, length-set}
-use denote.Ref.{now}
-use Rattle.text.specs.Text.{wroteTextOf, outTextOf}
 use Rattle.text.specs.Decimal.{digitsOf, decimalOf}
 use Rattle.text.proofs.Spelling.{a-place, fewer, turn, complete}
 use Rattle.text.proofs.decimal.write.Statement.{statement}
@@ -39,7 +37,7 @@ returns c =
     let a = b .before .before .before .before .before .before .before .args in
     let l = b .before .before .before .before .before .loop in
     let e : take (20 - l .i) (drop (l .i) (l .digits)) ≡ decimalOf (a .n) = sym (l .inv .3 ∙ complete (l .digits) (l .higher) (l .i) (omega arith) ∙ rw (l .inv .0)) in
-    (b .bytes .ensures .0 ∙ ap (wroteTextOf (length (now (a .out))) (a .at)) e, b .bytes .ensures .1 ∙ ap (outTextOf (now (a .out)) (a .at)) e)
+    rw e at (b .bytes .ensures)
 
 pub write-spec : {M : Type 1} → statement M
 write-spec =

@@ -9,7 +9,8 @@ use borrow.Author.Tests.{leb-true, leb-false, not-true, not-false}
 use lib.ListN.{length, drop, length-set}
 use lib.Seq.{sets}
 use denote.Ref.{now}
-use Rattle.text.proofs.Steps.{copied, ended, accepted, refused}
+use Rattle.wire.proofs.Writing.{no-room, all-written}
+use Rattle.text.proofs.Steps.{copied, ended}
 use Rattle.text.proofs.put.bytes.Statement.{statement}
 use Rattle.text.proofs.put.bytes.Tie as tie
 
@@ -22,8 +23,7 @@ abbrev μ-loop : tie.MeasureT-loop
 returns : tie.Need-returns Inv-loop μ-loop
 returns c =
     let a = c .before .before .before .before .args in
-    let r = refused (now (a .out)) (a .at) (now (a .text)) (leb-false _ _ (sym (c .before .fits2 .ensures) ∙ not-true _ (c .if1 .taken))) in
-    (sym (r .0), sym (r .1))
+    sym (no-room (now (a .out)) (a .at) (now (a .text)) (leb-false _ _ (sym (c .before .fits2 .ensures) ∙ not-true _ (c .if1 .taken))))
 
 loop-holds : tie.Need-loop-holds Inv-loop μ-loop
 loop-holds c = (omega arith, leb-true _ _ (sym (c .before .fits2 .ensures) ∙ not-false _ (c .if1 .left)), refl, rw add-zero)
@@ -37,8 +37,8 @@ returns-2 : tie.Need-returns-2 Inv-loop μ-loop
 returns-2 c =
     let a = c .before .before .before .before .before .before .args in
     let l = c .before .loop .inv in
-    let r = accepted (now (a .out)) (a .at) (now (a .text)) (l .1) in
-    (sym (r .0), rw (ended _ _ (c .loop-test .left)) at (l .3) ∙ sym (r .1))
+    let e = rw (ended _ _ (c .loop-test .left)) at (l .3) in
+    rw e (sym (all-written (now (a .out)) (a .at) (now (a .text)) (l .1)))
 
 pub bytes-spec : {M : Type 1} → statement M
 bytes-spec =

@@ -1,10 +1,10 @@
 -- `writing::numbers::put_one` meets its contract: a number that is there is in range and has room, so that it is written; one that is not has no bytes.
 -- Assumes nothing.
-use mathlib.Core.Path.{refl, sym, _∙_}
+use mathlib.Core.Path.{refl}
 use native.Mathlib.Nat.{add-zero}
 use borrow.Author.Needs.{needs}
 use denote.Ref.{now}
-use Rattle.writing.proofs.Ones.{unrefused, done}
+use Rattle.wire.proofs.Exit.{unrefused, accepted}
 use Rattle.writing.proofs.numbers.put_one.Statement.{statement}
 use Rattle.writing.proofs.numbers.put_one.Tie as tie
 
@@ -13,14 +13,14 @@ returns c =
     let w = c .before .before .before .before in
     let start = w .before .before .before .before in
     let a = start .args in
-    absurd (unrefused (now (a .out)) (a .at) (a .v) (start .pre .0) (rw (w .before .before .if1 .taken) at (start .pre .1)) (sym (w .write .ensures .0) ∙ c .enum-told .given .1))
+    absurd (unrefused (a .v) (now (a .out)) (a .at) (w .write .ensures) (start .pre .0) (rw (w .before .before .if1 .taken) at (start .pre .1)) (c .enum-told .given .1))
 
 returns-2 : tie.Need-returns-2
 returns-2 c =
     let w = c .before .before .before .before .before in
     let a = w .before .before .before .before .args in
-    let d = done (now (a .out)) (a .at) (a .v) (sym (w .write .ensures .0) ∙ c .before .next .given .1) in
-    rw (w .before .before .if1 .taken) (d .0, w .write .ensures .1 ∙ d .1)
+    let d = accepted (a .v) (now (a .out)) (a .at) (w .write .ensures) (c .before .next .given .1) .1 in
+    rw (w .before .before .if1 .taken) (d .ends, d .holds)
 
 pub put-one-spec : {M : Type 1} → statement M
 put-one-spec =

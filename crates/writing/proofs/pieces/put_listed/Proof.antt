@@ -31,20 +31,19 @@ same-length-2 : tie.Need-same-length-2 Inv-loop μ-loop
 same-length-2 c =
     let w = c .before .before .before .before in
     let r = w .before .before .before .before .before in
-    absurd (never-refused _ _ _ _ _ _ _ _ (r .before .before .loop .inv) (r .before .loop-test .taken) (sym (r .read .ensures) ∙ w .before .before .before .value .given .1) (sym (w .write .ensures .0) ∙ c .enum-told2 .given .1))
+    absurd (never-refused _ _ _ _ _ _ _ _ (r .before .before .loop .inv) (r .before .loop-test .taken) (sym (r .read .ensures) ∙ w .before .before .before .value .given .1) (w .write .ensures) (c .enum-told2 .given .1))
 
 returns-2 : tie.Need-returns-2 Inv-loop μ-loop
 returns-2 c =
     let w = c .before .before .before .before in
     let r = w .before .before .before .before .before in
-    absurd (never-refused _ _ _ _ _ _ _ _ (r .before .before .loop .inv) (r .before .loop-test .taken) (sym (r .read .ensures) ∙ w .before .before .before .value .given .1) (sym (w .write .ensures .0) ∙ c .enum-told2 .given .1))
+    absurd (never-refused _ _ _ _ _ _ _ _ (r .before .before .loop .inv) (r .before .loop-test .taken) (sym (r .read .ensures) ∙ w .before .before .before .value .given .1) (w .write .ensures) (c .enum-told2 .given .1))
 
 loop-again : tie.Need-loop-again Inv-loop μ-loop
 loop-again c =
     let w = c .before .before .before .before .before in
     let r = w .before .before .before .before .before in
-    rw (w .write .ensures .1)
-    (turn _ _ _ _ _ _ _ _ (r .before .before .loop .inv) (r .before .loop-test .taken) (sym (r .read .ensures) ∙ w .before .before .before .value .given .1) (sym (w .write .ensures .0) ∙ c .before .after .given .1))
+    turn _ _ _ _ _ _ _ _ (r .before .before .loop .inv) (r .before .loop-test .taken) (sym (r .read .ensures) ∙ w .before .before .before .value .given .1) (w .write .ensures) (c .before .after .given .1)
 
 returns-3 : tie.Need-returns-3 Inv-loop μ-loop
 returns-3 c =

@@ -1,0 +1,4 @@
+pub mod Halves
+pub mod Examples
+pub mod Back
+pub mod Unique

@@ -1,0 +1,5 @@
+pub mod Standing
+pub mod Found
+pub mod Back
+pub mod Readers
+pub mod Exact

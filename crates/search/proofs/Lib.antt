@@ -1,0 +1,3 @@
+pub mod Search
+pub mod Examples
+pub mod Unique
