@@ -24,13 +24,13 @@ use Rattle.frames.specs.declared.Numbers.the-variants.{Are}
 use Rattle.frames.specs.declared.Body.the-variants as Body'
 use Rattle.frames.specs.declared.Head.the-variants as Head'
 use Rattle.frames.specs.declared.Reading.the-variants.{Got}
-use Rattle.writing.specs.Parts.{partsOf}
-use Rattle.writing.specs.Content.{bodyOf, tokenOf, wholeOf, contentOf, contents}
-use Rattle.writing.specs.Taken.{takes}
+use Rattle.contents.specs.Parts.{partsOf}
+use Rattle.contents.specs.Content.{bodyOf, tokenOf, wholeOf, contentOf, contents}
+use Rattle.contents.specs.Taken.{takes}
 use Rattle.writing.specs.Spelled.{fourBytes, bodyBytes, spelledFrame}
-use Rattle.writing.specs.Again.{first, atIn, tokenIn, moved, again}
-use Rattle.writing.proofs.Settled.{settled}
-use Rattle.writing.proofs.Taking.{taken, Low, low}
+use Rattle.contents.specs.Again.{first, atIn, tokenIn, moved, again}
+use Rattle.contents.proofs.Settled.{settled}
+use Rattle.contents.proofs.Taking.{taken, Low, low}
 use Rattle.writing.proofs.Spelling.{range-four, spelled-length}
 use Rattle.writing.proofs.Bounds.{type-known}
 use Rattle.roundtrip.proofs.Standing.{numbers-back}

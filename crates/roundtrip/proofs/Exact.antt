@@ -16,11 +16,11 @@ use Rattle.wire.specs.declared.Wrote.the-variants.{To, Refused}
 use Rattle.wire.proofs.Writing.{never, only-room, past, bytes-written}
 use Rattle.frames.specs.declared.Frame.{Frame}
 use Rattle.frames.specs.declared.Reading.the-variants.{Got}
-use Rattle.writing.specs.Parts.{partsOf}
-use Rattle.writing.specs.Content.{Content, contents}
-use Rattle.writing.specs.Taken.{takes}
+use Rattle.contents.specs.Parts.{partsOf}
+use Rattle.contents.specs.Content.{Content, contents}
+use Rattle.contents.specs.Taken.{takes}
 use Rattle.writing.specs.Spelled.{spelledFrame, frameDraft}
-use Rattle.writing.proofs.Taking.{writable, unwritable}
+use Rattle.writing.proofs.Spelling.{writable, unwritable}
 use Rattle.roundtrip.specs.Readable.{ReadsAs, Readable}
 use Rattle.roundtrip.proofs.Back.{read-back}
 use Rattle.roundtrip.proofs.Readers.{read-taken}

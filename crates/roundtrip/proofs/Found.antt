@@ -25,10 +25,10 @@ use Rattle.frames.specs.declared.Tail.the-variants.{Nothing, Counted, Remainder
 use Rattle.frames.specs.declared.Body.the-variants as Body'
 use Rattle.frames.specs.declared.Parts.{Parts}
 use Rattle.frames.proofs.Places.{sized-is, identity-is}
-use Rattle.writing.specs.Content.{bodyOf, tokenOf, wholeOf}
-use Rattle.writing.specs.Taken.{fitting}
+use Rattle.contents.specs.Content.{bodyOf, tokenOf, wholeOf}
+use Rattle.contents.specs.Taken.{fitting}
 use Rattle.writing.specs.Spelled.{bodyBytes}
-use Rattle.writing.specs.Again.{atIn, lenIn, tokenIn, movedIn, ended}
+use Rattle.contents.specs.Again.{atIn, lenIn, tokenIn, movedIn, ended}
 use Rattle.writing.proofs.Bodies.{within, wholly, part-length}
 use Rattle.roundtrip.proofs.Standing.{slice-stands}
 

@@ -37,11 +37,11 @@ use Rattle.frames.proofs.Sound.{fields-got, any-got}
 use Rattle.ranges.proofs.Sound.{with-ranges}
 use Rattle.writing.proofs.Bodies.{wholly}
 use Rattle.writing.proofs.Bounds.{identity-short}
-use Rattle.writing.proofs.Taking.{fine}
-use Rattle.writing.specs.Parts.{streamType, maxStreamsType, streamsBlockedType, holdingParts, partsOf}
-use Rattle.writing.specs.Content.{bodyOf, tokenInside, wholeOf, contentOf, contents}
-use Rattle.writing.specs.Taken.{fitting, takes}
-use Rattle.writing.specs.Again.{first, atIn, lenIn, tokenIn, again}
+use Rattle.contents.proofs.Taking.{fine}
+use Rattle.contents.specs.Parts.{streamType, maxStreamsType, streamsBlockedType, holdingParts, partsOf}
+use Rattle.contents.specs.Content.{bodyOf, tokenInside, wholeOf, contentOf, contents}
+use Rattle.contents.specs.Taken.{fitting, takes}
+use Rattle.contents.specs.Again.{first, atIn, lenIn, tokenIn, again}
 
 -- a line for each number from k up to e
 data Lines (Q : ℕ → Type 0) : ℕ → ℕ → Type 0 where

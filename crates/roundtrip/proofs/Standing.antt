@@ -18,8 +18,8 @@ use Rattle.row.specs.Row.{inRange}
 use Rattle.frames.specs.Body.{optionalAt, numbersAt}
 use Rattle.frames.specs.declared.Numbers.the-variants.{Are}
 use Rattle.writing.specs.Spelled.{bytesIf, fourBytes}
-use Rattle.writing.specs.Again.{first}
-use Rattle.writing.proofs.Ones.{four-in-range}
+use Rattle.contents.specs.Again.{first}
+use Rattle.contents.proofs.Ones.{four-in-range}
 
 pub slice-stands : (s : List ℕ) (at n : ℕ) (l : List ℕ) → length l ≡ n → Stands s at l → slice at (at + n) s ≡ l
 slice-stands s at n l e h =

@@ -5,7 +5,7 @@ use mathlib.Core.List.{List}
 use Rattle.frames.specs.Reading.{anyFrameAt}
 use Rattle.frames.specs.declared.Frame.{Frame}
 use Rattle.frames.specs.declared.Reading.the-variants.{Got}
-use Rattle.writing.specs.Content.{Content, contents}
+use Rattle.contents.specs.Content.{Content, contents}
 
 -- a frame is read at a place of s up to n, and says c
 abbrev pub ReadsAs : List ℕ → ℕ → ℕ → Content → Type 0

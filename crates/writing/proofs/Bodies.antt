@@ -13,7 +13,7 @@ use Rattle.wire.specs.Number.{bytesOf, sizeOf}
 use Rattle.wire.proofs.Exit.{length-bytes}
 use Rattle.frames.specs.declared.Parts.{Parts}
 use Rattle.frames.specs.declared.Tail.{Tail}
-use Rattle.writing.specs.Content.{tokenInside, wholeOf}
+use Rattle.contents.specs.Content.{tokenInside, wholeOf}
 
 -- places that lie inside
 pub within : (n : ℕ) (tail : Tail) (p : Parts) → wholeOf n tail p ≡ true → (p .at + p .len ≤ n) × (tokenInside n tail p ≡ true)

@@ -15,12 +15,12 @@ use Rattle.frames.specs.declared.Parts.{Parts}
 use Rattle.frames.specs.declared.Frame.{Frame}
 use Rattle.frames.specs.declared.Tail.{Tail}
 use Rattle.frames.specs.declared.Tail.the-variants.{Nothing, Counted, Remainder, Eight, Identity, Ranges}
-use Rattle.writing.specs.Parts.{partsOf}
-use Rattle.writing.specs.Content.{contentOf}
-use Rattle.writing.specs.Taken.{takes}
+use Rattle.contents.specs.Parts.{partsOf}
+use Rattle.contents.specs.Content.{contentOf}
+use Rattle.contents.specs.Taken.{takes}
 use Rattle.writing.specs.Spelled.{InByte, Bounded}
-use Rattle.writing.proofs.Taking.{taken, low}
-use Rattle.writing.proofs.Settled.{settled}
+use Rattle.contents.proofs.Taking.{taken, low}
+use Rattle.contents.proofs.Settled.{settled}
 
 -- a test holds of all numbers below n
 below : ℕ → (ℕ → Bool) → Bool

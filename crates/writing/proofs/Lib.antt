@@ -1,9 +1,5 @@
-pub mod Settled
-pub mod Ones
-pub mod Taking
 pub mod Bounds
 pub mod Bodies
-pub mod Tails
 pub mod Copies
 pub mod Listing
 pub mod Spelling

@@ -1,5 +1,1 @@
-pub mod Parts
-pub mod Content
-pub mod Taken
 pub mod Spelled
-pub mod Again

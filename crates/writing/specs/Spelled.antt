@@ -13,8 +13,8 @@ use Rattle.frames.specs.Layout.{layoutOf}
 use Rattle.frames.specs.declared.Parts.{Parts}
 use Rattle.frames.specs.declared.Tail.{Tail}
 use Rattle.frames.specs.declared.Tail.the-variants.{Nothing, Counted, Remainder, Eight, Identity, Ranges}
-use Rattle.writing.specs.Content.{Content, wholeOf}
-use Rattle.writing.specs.Taken.{takes}
+use Rattle.contents.specs.Content.{Content, wholeOf}
+use Rattle.contents.specs.Taken.{takes}
 
 -- a number if it is there
 abbrev pub bytesIf : Bool → ℕ → List ℕ

@@ -1,16 +1,14 @@
 // Frames written (RFC 9000, 19): a frame, and the slice that its places refer to, into an output.
-mod checks;
 mod numbers;
 mod pieces;
-mod split;
 
 ghost use mathlib.Core.Path.{_≡_};
 ghost use mathlib.Core.Bool.{true};
 ghost use Prim.Native.Nat.{_+_, _≤_, _<_, _^_};
 ghost use lib.ListN.{length};
 ghost use lib.Seq.{sets};
-ghost use Rattle.writing.specs.Content.{contentOf, contents};
-ghost use Rattle.writing.specs.Taken.{takes};
+ghost use Rattle.contents.specs.Content.{contentOf, contents};
+ghost use Rattle.contents.specs.Taken.{takes};
 ghost use Rattle.writing.specs.Spelled.{spelledFrame, frameDraft};
 ghost use Rattle.wire.specs.Writing.{writes};
 use answers::Answer;
@@ -46,8 +44,8 @@ fn put(p: Parts, s: &[u8], out: &mut [u8], at: usize) -> usize
 pub fn write(frame: Frame, s: &[u8], out: &mut [u8], at: usize) -> Wrote
     ensures { λ r. ⌜ (r, now (out .exit)) ≡ writes (frameDraft (contents (now (s .entry)) frame)) (now (out .entry)) at ⌝ }
 {
-    let p = split::apart(frame);
-    if !checks::writable(p, s) {
+    let p = contents::split::apart(frame);
+    if !contents::checks::writable(p, s) {
         return Wrote::Refused {
             answer: Answer::Unwritable,
         };

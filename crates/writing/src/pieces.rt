@@ -7,7 +7,7 @@ ghost use lib.Seq.{sets, slice};
 ghost use Rattle.wire.specs.Number.{bytesOf};
 ghost use Rattle.row.specs.Row.{sizeAll, bytesAll};
 ghost use Rattle.ranges.specs.Listed.{listed};
-ghost use Rattle.writing.specs.Content.{bodyOf, tokenOf};
+ghost use Rattle.contents.specs.Content.{bodyOf, tokenOf};
 ghost use Rattle.writing.specs.Spelled.{bodyBytes, Bounded};
 use crate::numbers;
 use frames::Parts;

@@ -4,8 +4,8 @@ use mathlib.Core.Path.{sym}
 use native.Mathlib.Omega.{arith}
 use borrow.Author.Needs.{needs}
 use Rattle.wire.proofs.Exit.{length-bytes}
-use Rattle.writing.specs.Content.{contentOf}
-use Rattle.writing.proofs.Taking.{low}
+use Rattle.contents.specs.Content.{contentOf}
+use Rattle.contents.proofs.Taking.{low}
 use Rattle.writing.proofs.Bounds.{bounded}
 use Rattle.writing.proofs.Spelling.{spelled-length, spelled-sets, range-four}
 use Rattle.writing.proofs.put.Statement.{statement}

@@ -3,7 +3,7 @@
 use native.Mathlib.Omega.{arith}
 use borrow.Author.Needs.{needs}
 use Rattle.wire.proofs.Exit.{size-bounds}
-use Rattle.writing.specs.Content.{contentOf}
+use Rattle.contents.specs.Content.{contentOf}
 use Rattle.writing.proofs.Bounds.{bounded}
 use Rattle.writing.proofs.Spelling.{spelled-length}
 use Rattle.writing.proofs.size.Statement.{statement}

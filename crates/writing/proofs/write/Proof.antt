@@ -5,10 +5,10 @@ use native.Mathlib.Omega.{arith}
 use borrow.Author.Needs.{needs}
 use borrow.Author.Tests.{not-true, not-false}
 use Rattle.wire.proofs.Writing.{never, no-room, all-written}
-use Rattle.writing.specs.Content.{contentOf}
+use Rattle.contents.specs.Content.{contentOf}
 use Rattle.writing.specs.Spelled.{spelledFrame}
 use Rattle.writing.proofs.Bounds.{type-known}
-use Rattle.writing.proofs.Taking.{writable, unwritable}
+use Rattle.writing.proofs.Spelling.{writable, unwritable}
 use Rattle.writing.proofs.write.Statement.{statement}
 use Rattle.writing.proofs.write.Tie as tie
 

@@ -5,7 +5,7 @@ use borrow.Author.Needs.{needs}
 use lib.ListN.{length-append}
 use Rattle.wire.proofs.Standing.{sets-append}
 use Rattle.writing.specs.Spelled.{fourBytes}
-use Rattle.writing.proofs.Ones.{four-in-range}
+use Rattle.contents.proofs.Ones.{four-in-range}
 use Rattle.writing.proofs.numbers.put.Statement.{statement}
 use Rattle.writing.proofs.numbers.put.Tie as tie
 

@@ -1,0 +1,4 @@
+pub mod Parts
+pub mod Content
+pub mod Taken
+pub mod Again
