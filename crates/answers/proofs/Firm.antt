@@ -27,6 +27,11 @@ module _ {n : ℕ} {ps : List (PK n)} {r : RK n} where
       → Firm n ps r (λ κs a. Unit) (λ κs a x s. (x ≡ value κs a) × (left κs s ≡ after κs a)) (λ κs. resT r κs .Denot × L κs) (λ κs x s. (x, left κs s))
   equations = record { asks-nothing = λ κs a. tt; one-outcome = λ κs a x y s t p q. both p q }
 
+  -- the contract is one equation of all that a caller can see, the answer and what is left
+  pub outcome-equation : {O : Lfts n → Type 0} {outcome : (κs : Lfts n) → resT r κs .Denot → AtExit (endedOf n ps r) κs → O κs} {value : (κs : Lfts n) → Dens κs ps → O κs}
+      → Firm n ps r (λ κs a. Unit) (λ κs a x s. outcome κs x s ≡ value κs a) O outcome
+  outcome-equation = record { asks-nothing = λ κs a. tt; one-outcome = λ κs a x y s t p q. p ∙ sym q }
+
 module _ {M : Type 1} {𝓤 : URA M} {T : Ended} {ghost : (κs : Lfts (T .signature .lifetimes)) → Args (T .signature) κs → Type 0} where
   -- the same of functions that the toolchain reads as clauses: what the answer is ..
   pub clauses-equation : {value : (κs : Lfts (T .signature .lifetimes)) → Args (T .signature) κs → Res (T .signature) κs}

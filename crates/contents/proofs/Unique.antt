@@ -1,14 +1,14 @@
 -- The contracts of `apart` and `writable` are firm: each asks nothing and is an equation of the answer.
 -- Assumes nothing.
-use mathlib.Core.Path.{sym, _∙_}
 use Rattle.answers.specs.Firm.{FirmAnswer}
+use Rattle.answers.proofs.Firm.{equation}
 use Rattle.contents.proofs.split.apart.Kinds as apart
 use Rattle.contents.proofs.split.apart.Reads as apart-reads
 use Rattle.contents.proofs.checks.writable.Kinds as writable
 use Rattle.contents.proofs.checks.writable.Reads as writable-reads
 
 pub apart-firm : FirmAnswer 0 apart.ps apart.r apart-reads.Asked apart-reads.Post
-apart-firm = record { asks-nothing = λ κs a. tt; one-outcome = λ κs a x y s t p q. p ∙ sym q }
+apart-firm = equation
 
 pub writable-firm : FirmAnswer 1 writable.ps writable.r writable-reads.Asked writable-reads.Post
-writable-firm = record { asks-nothing = λ κs a. tt; one-outcome = λ κs a x y s t p q. p ∙ sym q }
+writable-firm = equation

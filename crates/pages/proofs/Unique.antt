@@ -1,10 +1,10 @@
 -- The contract of every function that other crates can call is firm: it asks nothing and is an equation of the answer, and of the output where there is one.
 -- Assumes nothing.
-use mathlib.Core.Path.{sym, _∙_}
 use mathlib.Core.List.{List}
 use Prim.Native.Nat.{ℕ}
 use denote.Ref.{now}
 use Rattle.answers.specs.Firm.{Firm, FirmAnswer}
+use Rattle.answers.proofs.Firm.{equation, outcome-equation}
 use Rattle.pages.specs.declared.Page.{Page}
 use Rattle.pages.proofs.small.Kinds as small
 use Rattle.pages.proofs.small.Reads as small-reads
@@ -14,10 +14,10 @@ use Rattle.pages.proofs.last.Kinds as last
 use Rattle.pages.proofs.last.Reads as last-reads
 
 pub small-firm : FirmAnswer 0 small.ps small.r small-reads.Asked small-reads.Post
-small-firm = record { asks-nothing = λ κs a. tt; one-outcome = λ κs a x y s t p q. p ∙ sym q }
+small-firm = equation
 
 pub fill-firm : Firm 2 fill.ps fill.r fill-reads.Asked fill-reads.Post (λ κs. Page × List ℕ) (λ κs x s. (x, now (s .1 .1 .0)))
-fill-firm = record { asks-nothing = λ κs a. tt; one-outcome = λ κs a x y s t p q. p ∙ sym q }
+fill-firm = outcome-equation
 
 pub last-firm : FirmAnswer 0 last.ps last.r last-reads.Asked last-reads.Post
-last-firm = record { asks-nothing = λ κs a. tt; one-outcome = λ κs a x y s t p q. p ∙ sym q }
+last-firm = equation

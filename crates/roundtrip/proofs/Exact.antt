@@ -9,6 +9,7 @@ use native.Mathlib.Omega.{arith}
 use borrow.Author.Tests.{not-false}
 use lib.ListN.{length, getD}
 use Rattle.answers.specs.declared.Answer.the-variants.{NoRoom, Unwritable}
+use Rattle.answers.proofs.Distinct.{impossible}
 use Rattle.wire.specs.Number.{Stands}
 use Rattle.wire.specs.Writing.{Bytes, writes, Written}
 use Rattle.wire.specs.declared.Wrote.{Wrote}
@@ -45,7 +46,7 @@ module _ (c : Content) (out : List ℕ) (at : ℕ) where
       go false p = p
       go true p =
           let r = only-room (frameDraft c) out at refl e (spelledFrame c) (writable c p) .0 in
-          let z : _≡_ {A = ℕ} 0 1 = cc in absurd (omega arith)
+          impossible cc
 
 -- read after write: the frame at the place of writing says the same, and ends where the writing ended
 pub written : (s out : List ℕ) (f : Frame) (at : ℕ) {r : Wrote} {after : List ℕ} → (r, after) ≡ writes (frameDraft (contents s f)) out at → {n : ℕ} → r ≡ To n → ReadsAs after at n (contents s f)

@@ -10,6 +10,7 @@ use borrow.Author.Tests.{leb-true, le-leb, le-ltb}
 use lib.Dec.{leb}
 use lib.ListN.{length, getD, length-append}
 use lib.Seq.{slice}
+use Rattle.answers.proofs.Distinct.{impossible}
 use Rattle.wire.specs.Number.{Stands, bytesOf, sizeOf}
 use Rattle.wire.specs.declared.Number.the-variants.{Is}
 use Rattle.wire.proofs.Standing.{left, right, head}

@@ -10,6 +10,7 @@ use lib.Dec.{ltb, leb, eqb}
 use lib.ListN.{length, getD}
 use Rattle.answers.specs.Choice.{_⇒_∣_}
 use Rattle.answers.proofs.Choice.{holds, below-or-not}
+use Rattle.answers.proofs.Distinct.{impossible}
 use Rattle.wire.specs.Number.{numberAt}
 use Rattle.wire.specs.declared.Number.the-variants.{Is}
 use Rattle.wire.proofs.Sound as number
@@ -180,7 +181,7 @@ record BodyRead (s : List ℕ) (tail : Tail) (p : Parts) : Type 0 where
   runs : fitting tail (p .a) (p .c) (p .d) (bodyOf s tail p) ≡ true
 
 wrong : {at len token next : ℕ} → Body'.Wrong ≡ Body'.Is at len token next → ⊥
-wrong e = let z : _≡_ {A = ℕ} 0 1 = cc in omega arith
+wrong e = impossible cc
 
 module _ (s : List ℕ) (q : ℕ) (p : Parts) (next : ℕ) where
   abbrev found : Body

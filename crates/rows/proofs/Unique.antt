@@ -1,10 +1,10 @@
 -- The contract of every function that other crates can call is firm: it asks nothing and is an equation of the answer, and of the output where there is one.
 -- Assumes nothing.
-use mathlib.Core.Path.{sym, _∙_}
 use mathlib.Core.List.{List}
 use Prim.Native.Nat.{ℕ}
 use denote.Ref.{now}
 use Rattle.answers.specs.Firm.{Firm, FirmAnswer}
+use Rattle.answers.proofs.Firm.{equation, outcome-equation}
 use Rattle.wire.specs.declared.Wrote.{Wrote}
 use Rattle.rows.proofs.row.Kinds as row
 use Rattle.rows.proofs.row.Reads as row-reads
@@ -18,16 +18,16 @@ use Rattle.rows.proofs.taken.ending.Kinds as ending
 use Rattle.rows.proofs.taken.ending.Reads as ending-reads
 
 pub row-firm : Firm 1 row.ps row.r row-reads.Asked row-reads.Post (λ κs. Wrote × List ℕ) (λ κs x s. (x, now (s .0)))
-row-firm = record { asks-nothing = λ κs a. tt; one-outcome = λ κs a x y s t p q. p ∙ sym q }
+row-firm = outcome-equation
 
 pub too-long-firm : FirmAnswer 0 too-long.ps too-long.r too-long-reads.Asked too-long-reads.Post
-too-long-firm = record { asks-nothing = λ κs a. tt; one-outcome = λ κs a x y s t p q. p ∙ sym q }
+too-long-firm = equation
 
 pub taken-row-firm : Firm 1 taken-row.ps taken-row.r taken-row-reads.Asked taken-row-reads.Post (λ κs. Wrote × List ℕ) (λ κs x s. (x, now (s .0)))
-taken-row-firm = record { asks-nothing = λ κs a. tt; one-outcome = λ κs a x y s t p q. p ∙ sym q }
+taken-row-firm = outcome-equation
 
 pub after-firm : FirmAnswer 0 after.ps after.r after-reads.Asked after-reads.Post
-after-firm = record { asks-nothing = λ κs a. tt; one-outcome = λ κs a x y s t p q. p ∙ sym q }
+after-firm = equation
 
 pub ending-firm : Firm 1 ending.ps ending.r ending-reads.Asked ending-reads.Post (λ κs. Wrote × List ℕ) (λ κs x s. (x, now (s .0)))
-ending-firm = record { asks-nothing = λ κs a. tt; one-outcome = λ κs a x y s t p q. p ∙ sym q }
+ending-firm = outcome-equation

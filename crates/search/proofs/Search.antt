@@ -9,6 +9,7 @@ use borrow.Author.Tests.{eqb-true, eqb-false, eq-eqb, ne-eqb}
 use lib.Dec.{eqb}
 use lib.ListN.{length, getD, drop}
 use Rattle.answers.proofs.Choice.{holds}
+use Rattle.answers.proofs.Distinct.{impossible}
 use Rattle.search.specs.Words.{before, sameOf}
 use Rattle.text.proofs.Steps.{step}
 
@@ -50,8 +51,8 @@ not-as-long (x ∷ s) (y ∷ t) n = rw (not-as-long s t (λ e. n (ap suc e))) (a
 pub told : (s t : List ℕ) → sameOf s t ≡ true → s ≡ t
 unfolding sameOf
 told [] [] e = refl
-told [] (y ∷ t) e = let z : _≡_ {A = ℕ} 0 1 = cc in absurd (omega arith)
-told (x ∷ s) [] e = let z : _≡_ {A = ℕ} 0 1 = cc in absurd (omega arith)
+told [] (y ∷ t) e = impossible cc
+told (x ∷ s) [] e = impossible cc
 told (x ∷ s) (y ∷ t) e =
     let b = and-eq-true-iff (eqb x y) (sameOf s t) .0 e in
     rw (eqb-true x y (b .0), told s t (b .1))

@@ -1,7 +1,7 @@
 -- The contract of every function that other crates can call is firm: it asks nothing and is an equation of the answer.
 -- Assumes nothing.
-use mathlib.Core.Path.{sym, _∙_}
 use Rattle.answers.specs.Firm.{FirmAnswer}
+use Rattle.answers.proofs.Firm.{equation}
 use Rattle.search.proofs.find.Kinds as find
 use Rattle.search.proofs.find.Reads as find-reads
 use Rattle.search.proofs.word_end.Kinds as word-end
@@ -12,13 +12,13 @@ use Rattle.search.proofs.same.Kinds as same
 use Rattle.search.proofs.same.Reads as same-reads
 
 pub find-firm : FirmAnswer 1 find.ps find.r find-reads.Asked find-reads.Post
-find-firm = record { asks-nothing = λ κs a. tt; one-outcome = λ κs a x y s t p q. p ∙ sym q }
+find-firm = equation
 
 pub word-end-firm : FirmAnswer 1 word-end.ps word-end.r word-end-reads.Asked word-end-reads.Post
-word-end-firm = record { asks-nothing = λ κs a. tt; one-outcome = λ κs a x y s t p q. p ∙ sym q }
+word-end-firm = equation
 
 pub line-end-firm : FirmAnswer 1 line-end.ps line-end.r line-end-reads.Asked line-end-reads.Post
-line-end-firm = record { asks-nothing = λ κs a. tt; one-outcome = λ κs a x y s t p q. p ∙ sym q }
+line-end-firm = equation
 
 pub same-firm : FirmAnswer 2 same.ps same.r same-reads.Asked same-reads.Post
-same-firm = record { asks-nothing = λ κs a. tt; one-outcome = λ κs a x y s t p q. p ∙ sym q }
+same-firm = equation

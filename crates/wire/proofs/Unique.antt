@@ -1,10 +1,10 @@
 -- The contracts of `read`, `size` and `write` are firm: each is an equation of the answer, and `write`'s of the answer and the output.
 -- Assumes nothing.
-use mathlib.Core.Path.{sym, _∙_}
 use mathlib.Core.List.{List}
 use Prim.Native.Nat.{ℕ}
 use denote.Ref.{now}
 use Rattle.answers.specs.Firm.{Firm, FirmAnswer}
+use Rattle.answers.proofs.Firm.{equation, outcome-equation}
 use Rattle.wire.specs.declared.Wrote.{Wrote}
 use Rattle.wire.proofs.read.Kinds as read
 use Rattle.wire.proofs.read.Reads as reading
@@ -14,10 +14,10 @@ use Rattle.wire.proofs.write.Kinds as write
 use Rattle.wire.proofs.write.Reads as writing
 
 pub read-firm : FirmAnswer 1 read.ps read.r reading.Asked reading.Post
-read-firm = record { asks-nothing = λ κs a. tt; one-outcome = λ κs a x y s t p q. p ∙ sym q }
+read-firm = equation
 
 pub size-firm : FirmAnswer 0 size.ps size.r sizing.Asked sizing.Post
-size-firm = record { asks-nothing = λ κs a. tt; one-outcome = λ κs a x y s t p q. p ∙ sym q }
+size-firm = equation
 
 pub write-firm : Firm 1 write.ps write.r writing.Asked writing.Post (λ κs. Wrote × List ℕ) (λ κs x s. (x, now (s .0)))
-write-firm = record { asks-nothing = λ κs a. tt; one-outcome = λ κs a x y s t p q. p ∙ sym q }
+write-firm = outcome-equation

@@ -14,6 +14,7 @@ use Rattle.answers.specs.Choice.{_⇒_∣_}
 use Rattle.answers.specs.declared.Answer.{Answer}
 use Rattle.answers.specs.declared.Answer.the-variants.{NoRoom}
 use Rattle.answers.proofs.Choice.{holds}
+use Rattle.answers.proofs.Distinct.{impossible}
 use Rattle.wire.specs.Writing.{Draft, Bytes, Never, writes, Written}
 use Rattle.wire.specs.declared.Wrote.{Wrote}
 use Rattle.wire.specs.declared.Wrote.the-variants.{To, Refused}
@@ -47,7 +48,7 @@ Outcome d out at (Refused a, after) = (after ≡ out) × ((l : List ℕ) → d �
 
 outcome : (d : Draft) (out : List ℕ) (at : ℕ) → Outcome d out at (writes d out at)
 unfolding writes
-outcome (Never a) out at = (refl, λ l e. let z : _≡_ {A = ℕ} 0 1 = cc in absurd (omega arith))
+outcome (Never a) out at = (refl, λ l e. impossible cc)
 outcome (Bytes l) out at =
     holds (Outcome (Bytes l) out at) (ltb (length out) (at + length l)) (Refused NoRoom, out) (To (at + length l), sets out at l)
     (λ e. (refl, λ m f. let g : l ≡ m = cc in (refl, rw g at (ltb-true (length out) (at + length l) e))))
@@ -96,7 +97,7 @@ pub past : (b : Bool) (a : Answer) (d : Draft) (out : List ℕ) (at : ℕ) {r : 
 unfolding writes
 past true a d out at {r} e p =
     let f : r ≡ Refused a = ap (λ (x : Wrote × List ℕ). x .0) e in
-    let z : _≡_ {A = ℕ} 0 1 = cc in absurd (omega arith)
+    impossible cc
 past false a d out at e p = (refl, e)
 
 -- with room for them bytes are not refused

@@ -9,6 +9,7 @@ use borrow.Author.Tests.{eqb-true, lt-ltb, le-ltb, leb-true}
 use lib.Dec.{eqb}
 use lib.ListN.{length, List·getD-eq-default}
 use Rattle.answers.proofs.Choice.{below-or-not}
+use Rattle.answers.proofs.Distinct.{impossible}
 use Rattle.frames.specs.Layout.{layout, layouts, layoutOf, known}
 use Rattle.frames.specs.Faults.{faultOf, misissuedOf}
 use Rattle.frames.specs.declared.Parts.{Parts}
@@ -57,7 +58,7 @@ only-identity ty e =
     (λ h. eqb-true ty 0x18 (rw e at (each 31 only only-below ty h)))
     (λ h.
     let d = List·getD-eq-default layouts (layout 0 Nothing 0) {n = ty} h in
-    let z : _≡_ {A = ℕ} 0 1 = cc in absurd (omega arith))
+    impossible cc)
 
 misissued-long : (a b len : ℕ) → 20 < len → misissuedOf a b len ≡ true
 unfolding misissuedOf
@@ -67,7 +68,7 @@ pub identity-short : (a b len : ℕ) → faultOf 0x18 a b len ≡ false → len 
 unfolding faultOf
 identity-short a b len e =
     below-or-not 20 len
-    (λ h. let m = misissued-long a b len h in let z : _≡_ {A = ℕ} 0 1 = cc in absurd (omega arith))
+    (λ h. let m = misissued-long a b len h in impossible cc)
     (λ h. h)
 
 in-byte : (tail : Tail) (len : ℕ) → (tail ≡ Identity → len < 256) → InByte tail len
