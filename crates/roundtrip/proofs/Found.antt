@@ -124,7 +124,7 @@ module _ (s out : List ℕ) (q : ℕ) (p : Parts) where
 pub body-back : (s out : List ℕ) (q : ℕ) (tail : Tail) (p : Parts) → Writable s tail p → Stands out q (bodyBytes tail (p .len) (bodyOf s tail p) (tokenOf s tail p)) → (at : ℕ) × (token : ℕ) × FoundAgain s out q tail p at token
 body-back s out q Nothing p w st = (0, 0, nothing s out q p w st)
 body-back s out q Counted p w st = (q + sizeOf (p .len), 0, counted s out q p w st)
-body-back s out q Remainder p w st = let z : _≡_ {A = Bool} false true = w .closed in let y : _≡_ {A = ℕ} 0 1 = cc in absurd (omega arith)
+body-back s out q Remainder p w st = let z : _≡_ {A = Bool} false true = w .closed in impossible cc
 body-back s out q Eight p w st = (q, 0, eight s out q p w st)
 body-back s out q Identity p w st = (q + 1, q + 1 + p .len, identity s out q p w st)
 body-back s out q Ranges p w st = (q, 0, ranged s out q p w st)

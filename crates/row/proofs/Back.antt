@@ -3,12 +3,12 @@
 use mathlib.Core.Path.{_≡_, refl, sym, _∙_, subst}
 use mathlib.Core.Bool.{true, false, not, and-eq-true-iff}
 use mathlib.Core.List.{List, [], _∷_}
-use Prim.Native.Nat.{ℕ, _+_, _-_, _^_}
+use Prim.Native.Nat.{ℕ, zero, suc, _+_, _-_, _*_, _^_, _≤_}
 use native.Mathlib.Nat.{add-zero, add-assoc}
 use native.Mathlib.Omega.{arith}
 use borrow.Author.Tests.{leb-true, not-false}
 use lib.Dec.{leb}
-use lib.ListN.{length, length-append}
+use lib.ListN.{length, take, length-append}
 use Rattle.answers.specs.declared.Answer.the-variants.{Unwritable}
 use Rattle.wire.specs.Number.{numberAt, bytesOf, sizeOf, Stands}
 use Rattle.wire.specs.Writing.{Bytes, Never, writes, Written}
@@ -18,13 +18,28 @@ use Rattle.wire.specs.declared.Wrote.the-variants.{To}
 use Rattle.wire.proofs.Standing.{left, right}
 use Rattle.wire.proofs.Back.{back}
 use Rattle.wire.proofs.Writing.{past, bytes-written}
-use Rattle.wire.proofs.Exit.{length-bytes}
+use Rattle.wire.proofs.Exit.{length-bytes, size-bounds}
 use Rattle.row.specs.Row.{inRange, sizeAll, bytesAll, rowDraft, ReadAs}
 
 pub length-all : (vs : List ℕ) → length (bytesAll vs) ≡ sizeAll vs
 unfolding bytesAll sizeAll
 length-all [] = refl
 length-all (v ∷ vs) = rw (length-append, length-bytes v, length-all vs)
+
+-- no more than 8 bytes for each number
+pub size-most : (vs : List ℕ) → sizeAll vs ≤ 8 * length vs
+unfolding sizeAll
+size-most [] = omega arith
+size-most (v ∷ vs) = omega (arith, size-bounds v, size-most vs)
+
+-- the first numbers of a row in range are in range
+pub range-take : (n : ℕ) (vs : List ℕ) → inRange vs ≡ true → inRange (take n vs) ≡ true
+unfolding inRange
+range-take zero vs r = refl
+range-take (suc n) [] r = refl
+range-take (suc n) (v ∷ vs) r =
+    let b = and-eq-true-iff (leb v (2 ^ 62 - 1)) (inRange vs) .0 r in
+    rw (b .0) (range-take n vs (b .1))
 
 -- the first number of a row reads back, and the rest stands behind it
 pub peel : (s : List ℕ) (at v : ℕ) (vs : List ℕ) → inRange (v ∷ vs) ≡ true → Stands s at (bytesAll (v ∷ vs))

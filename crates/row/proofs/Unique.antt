@@ -1,4 +1,4 @@
--- The contracts of `in_range` and `write` are firm: each is an equation of the answer, and `write`'s of the answer and the output.
+-- The contracts of `in_range`, `size` and `write` are firm: each is an equation of the answer, and `write`'s of the answer and the output.
 -- Assumes nothing.
 use mathlib.Core.List.{List}
 use Prim.Native.Nat.{ℕ}
@@ -8,11 +8,16 @@ use Rattle.answers.proofs.Firm.{equation, outcome-equation}
 use Rattle.wire.specs.declared.Wrote.{Wrote}
 use Rattle.row.proofs.in_range.Kinds as in-range
 use Rattle.row.proofs.in_range.Reads as ranging
+use Rattle.row.proofs.size.Kinds as size
+use Rattle.row.proofs.size.Reads as sizing
 use Rattle.row.proofs.write.Kinds as write
 use Rattle.row.proofs.write.Reads as writing
 
 pub in-range-firm : FirmAnswer 1 in-range.ps in-range.r ranging.Asked ranging.Post
 in-range-firm = equation
+
+pub size-firm : FirmAnswer 1 size.ps size.r sizing.Asked sizing.Post
+size-firm = equation
 
 pub write-firm : Firm 2 write.ps write.r writing.Asked writing.Post (λ κs. Wrote × List ℕ) (λ κs x s. (x, now (s .0)))
 write-firm = outcome-equation

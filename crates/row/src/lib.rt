@@ -24,7 +24,7 @@ pub fn in_range(numbers: &[u64]) -> bool
 }
 
 // How many bytes their shortest forms have together.
-fn size(numbers: &[u64]) -> usize
+pub fn size(numbers: &[u64]) -> usize
     ensures { λ r. ⌜ r ≡ sizeAll (now (numbers .entry)) ⌝ }
 {
     let mut total: usize = 0;

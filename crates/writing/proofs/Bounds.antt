@@ -6,7 +6,7 @@ use mathlib.Core.List.{List}
 use Prim.Native.Nat.{ℕ, zero, suc, _≤_, _<_}
 use native.Mathlib.Omega.{arith}
 use borrow.Author.Tests.{eqb-true, lt-ltb, le-ltb, leb-true}
-use lib.Dec.{eqb}
+use lib.Dec.{eqb, leb}
 use lib.ListN.{length, List·getD-eq-default}
 use Rattle.answers.proofs.Choice.{below-or-not}
 use Rattle.answers.proofs.Distinct.{impossible}
@@ -59,6 +59,21 @@ only-identity ty e =
     (λ h.
     let d = List·getD-eq-default layouts (layout 0 Nothing 0) {n = ty} h in
     impossible cc)
+
+-- no layout has more than four numbers before its tail, or behind it
+few : ℕ → Bool
+few ty = leb (layoutOf ty .numbers) 4 && leb (layoutOf ty .after) 4
+
+few-below : below 31 few ≡ true
+unfolding below few layoutOf layouts
+few-below = refl
+
+pub at-most-four : (ty : ℕ) → (layoutOf ty .numbers ≤ 4) × (layoutOf ty .after ≤ 4)
+unfolding few layoutOf layouts
+at-most-four ty =
+    below-or-not ty 31
+    (λ h. let b = and-eq-true-iff (leb (layoutOf ty .numbers) 4) (leb (layoutOf ty .after) 4) .0 (each 31 few few-below ty h) in (leb-true _ _ (b .0), leb-true _ _ (b .1)))
+    (λ h. let d = List·getD-eq-default layouts (layout 0 Nothing 0) {n = ty} h in rw d (omega arith, omega arith))
 
 misissued-long : (a b len : ℕ) → 20 < len → misissuedOf a b len ≡ true
 unfolding misissuedOf

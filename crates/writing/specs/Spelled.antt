@@ -1,13 +1,15 @@
 -- The bytes of a frame: its layout filled with its contents, every number in its shortest form.
 use mathlib.Core.Path.{_≡_}
 use Prim.Native.Nat.{ℕ, _^_, _<_}
-use mathlib.Core.Bool.{Bool, true, false, not}
+use mathlib.Core.Bool.{true, not}
 use mathlib.Core.List.{List, [], _∷_, _++_}
-use lib.Dec.{ltb}
+use lib.ListN.{take}
 use Rattle.answers.specs.Choice.{_⇒_∣_}
 use Rattle.answers.specs.declared.Answer.the-variants.{Unwritable}
 use Rattle.wire.specs.Number.{bytesOf}
 use Rattle.wire.specs.Writing.{Draft, Bytes, Never}
+use Rattle.wire.specs.declared.Wrote.{Wrote}
+use Rattle.wire.specs.declared.Wrote.the-variants.{To, Refused}
 use Rattle.row.specs.Row.{bytesAll}
 use Rattle.frames.specs.Layout.{layoutOf}
 use Rattle.frames.specs.declared.Parts.{Parts}
@@ -16,14 +18,14 @@ use Rattle.frames.specs.declared.Tail.the-variants.{Nothing, Counted, Remainder
 use Rattle.contents.specs.Content.{Content, wholeOf}
 use Rattle.contents.specs.Taken.{takes}
 
--- a number if it is there
-abbrev pub bytesIf : Bool → ℕ → List ℕ
-bytesIf true v = bytesOf v
-bytesIf false v = []
+-- the place after what was written, 0 after a refusal
+unfoldable pub placeAfter : Wrote → ℕ
+placeAfter (To next) = next
+placeAfter (Refused answer) = 0
 
 -- the first n of four numbers
 unfoldable pub fourBytes : ℕ → ℕ → ℕ → ℕ → ℕ → List ℕ
-fourBytes n a b c d = bytesIf (ltb 0 n) a ++ (bytesIf (ltb 1 n) b ++ (bytesIf (ltb 2 n) c ++ bytesIf (ltb 3 n) d))
+fourBytes n a b c d = bytesAll (take n (a ∷ b ∷ c ∷ d ∷ []))
 
 -- what stands behind them
 abbrev pub bodyBytes : Tail → ℕ → List ℕ → List ℕ → List ℕ

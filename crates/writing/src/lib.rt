@@ -1,5 +1,4 @@
 // Frames written (RFC 9000, 19): a frame, and the slice that its places refer to, into an output.
-mod numbers;
 mod pieces;
 
 ghost use mathlib.Core.Path.{_≡_};
@@ -9,12 +8,22 @@ ghost use lib.ListN.{length};
 ghost use lib.Seq.{sets};
 ghost use Rattle.contents.specs.Content.{contentOf, contents};
 ghost use Rattle.contents.specs.Taken.{takes};
-ghost use Rattle.writing.specs.Spelled.{spelledFrame, frameDraft};
+ghost use Rattle.writing.specs.Spelled.{placeAfter, spelledFrame, frameDraft};
 ghost use Rattle.wire.specs.Writing.{writes};
 use answers::Answer;
 use frames::Frame;
 use frames::Parts;
 use wire::Wrote;
+
+// The place after what was written, 0 after a refusal.
+pub(crate) fn past(wrote: Wrote) -> usize
+    ensures { λ r. ⌜ r ≡ placeAfter wrote ⌝ }
+{
+    match wrote {
+        Wrote::To { next } => next,
+        Wrote::Refused { answer: _ } => 0,
+    }
+}
 
 // How many bytes a frame that can be written has.
 fn size(p: Parts, s: &[u8]) -> usize
@@ -23,8 +32,12 @@ fn size(p: Parts, s: &[u8]) -> usize
 {
     let l = frames::table::find(p.ty);
     let tail = l.tail;
-    let front = wire::size(p.ty) + numbers::size(l.numbers, p.a, p.b, p.c, p.d);
-    front + pieces::size(tail, p, s) + numbers::size(l.after, p.x, p.y, p.z, 0)
+    let numbers = [p.a, p.b, p.c, p.d];
+    let after = [p.x, p.y, p.z, 0];
+    let n = l.numbers as usize;
+    let m = l.after as usize;
+    let front = wire::size(p.ty) + row::size(&numbers[..n]);
+    front + pieces::size(tail, p, s) + row::size(&after[..m])
 }
 
 // Writes a frame that can be written at a place with room for it.
@@ -34,10 +47,14 @@ fn put(p: Parts, s: &[u8], out: &mut [u8], at: usize) -> usize
 {
     let l = frames::table::find(p.ty);
     let tail = l.tail;
-    let o = numbers::put_one(out, at, true, p.ty);
-    let q = numbers::put(out, o, l.numbers, p.a, p.b, p.c, p.d);
+    let numbers = [p.a, p.b, p.c, p.d];
+    let after = [p.x, p.y, p.z, 0];
+    let n = l.numbers as usize;
+    let m = l.after as usize;
+    let o = past(wire::write(out, at, p.ty));
+    let q = past(row::write(out, o, &numbers[..n]));
     let r = pieces::put(tail, p, s, out, q);
-    numbers::put(out, r, l.after, p.x, p.y, p.z, 0)
+    past(row::write(out, r, &after[..m]))
 }
 
 // Writes a frame at a place. A refusal leaves the output untouched.

@@ -9,7 +9,6 @@ ghost use Rattle.row.specs.Row.{sizeAll, bytesAll};
 ghost use Rattle.ranges.specs.Listed.{listed};
 ghost use Rattle.contents.specs.Content.{bodyOf, tokenOf};
 ghost use Rattle.writing.specs.Spelled.{bodyBytes, Bounded};
-use crate::numbers;
 use frames::Parts;
 use frames::Tail;
 use wire::Number;
@@ -73,7 +72,7 @@ fn put_counted(out: &mut [u8], at: usize, s: &[u8], from: usize, len: usize) -> 
     requires { ⌜ (len < 2 ^ 62) × (from + len ≤ length (now s)) × (at + length (bytesOf len ++ slice from (from + len) (now s)) ≤ length (now out)) ⌝ }
     ensures { λ r. ⌜ (r ≡ at + length (bytesOf len ++ slice from (from + len) (now (s .entry)))) × (now (out .exit) ≡ sets (now (out .entry)) at (bytesOf len ++ slice from (from + len) (now (s .entry)))) ⌝ }
 {
-    let q = numbers::put_one(out, at, true, len as u64);
+    let q = crate::past(wire::write(out, at, len as u64));
     put_bytes(out, q, s, from, len)
 }
 

@@ -1,86 +1,79 @@
--- `writing::put` meets its contract: each piece is in range and has room behind those before it, and the runs of stores join.
+-- `writing::put` meets its contract: each piece is in range and has room behind those before it, and together they are the frame.
 -- Assumes nothing.
-use mathlib.Core.Path.{sym}
+use mathlib.Core.Path.{_≡_, sym}
 use native.Mathlib.Omega.{arith}
 use borrow.Author.Needs.{needs}
-use Rattle.wire.proofs.Exit.{length-bytes}
+use lib.Seq.{length-take-le}
 use Rattle.contents.specs.Content.{contentOf}
-use Rattle.contents.proofs.Taking.{low}
-use Rattle.writing.proofs.Bounds.{bounded}
-use Rattle.writing.proofs.Spelling.{spelled-length, spelled-sets, range-four}
+use Rattle.writing.proofs.Bounds.{bounded, at-most-four}
+use Rattle.writing.proofs.Spelling.{type-put, front-put, room-two, back-put}
 use Rattle.writing.proofs.put.Statement.{statement}
 use Rattle.writing.proofs.put.Tie as tie
 
-put-one-requires : tie.Need-put-one-requires
-put-one-requires c κs =
-    let start = c .before .before .before .before in
-    let a = start .args in
-    (start .pre .0, omega (arith, start .pre .2, length-bytes (a .p .ty), spelled-length (contentOf (a .s .now) (a .p))))
+array-share-prefix-numbers : tie.Need-array-share-prefix-numbers
+array-share-prefix-numbers c =
+    let f = c .before .before .before .before .before .before .before .before in
+    rw (f .find .ensures) (at-most-four (f .before .before .before .args .p .ty) .0)
+
+slice-aggregate-write : tie.Need-slice-aggregate-write
+slice-aggregate-write c = sym (length-take-le _ _ (array-share-prefix-numbers (c .before)))
 
 put-requires : tie.Need-put-requires
 put-requires c κs =
-    let w = c .before .before .before in
-    let f = w .before .before in
+    let b = c .before in
+    let w = b .before .before .before in
+    let d = w .before .before .before in
+    let v = d .before .before .before in
+    let f = v .before .before .before .before in
     let start = f .before .before .before in
     let a = start .args in
-    let l = low (contentOf (a .s .now) (a .p)) (start .pre .1) in (
-      range-four _ _ _ _ (l .a) (l .b) (l .c) (l .d),
-      rw (f .find .ensures) (omega (arith, start .pre .2, w .put-one .ensures .0, length-bytes (a .p .ty), spelled-length (contentOf (a .s .now) (a .p)))),
-    )
+    let g = f .find .ensures in
+    let x = type-put (contentOf (a .s .now) (a .p)) (start .pre .0) (start .pre .1) (a .out .now) (a .at) (start .pre .2) (v .write .ensures) (d .past .ensures) in
+    let y = front-put (contentOf (a .s .now) (a .p)) (start .pre .0) (start .pre .1) (a .out .now) (a .at) (start .pre .2) x (rw g at (w .write2 .ensures)) (b .past2 .ensures) in
+    rw g (bounded (a .s .now) (a .p) (start .pre .1), room-two (contentOf (a .s .now) (a .p)) (start .pre .0) (start .pre .1) (a .out .now) (a .at) (start .pre .2) x y)
 
-put-requires-2 : tie.Need-put-requires-2
-put-requires-2 c κs =
-    let x = c .before .before .before in
-    let w = x .before .before .before .before in
-    let f = w .before .before in
-    let start = f .before .before .before in
-    let a = start .args in
-    let h = rw (f .find .ensures) at (x .put .ensures .0) in
-    rw (f .find .ensures) (
-      bounded (a .s .now) (a .p) (start .pre .1),
-      omega (arith, start .pre .2, w .put-one .ensures .0, h, length-bytes (a .p .ty), spelled-length (contentOf (a .s .now) (a .p))),
-    )
+array-share-prefix-after : tie.Need-array-share-prefix-after
+array-share-prefix-after c =
+    let b = c .before .before .before .before .before in
+    let f = b .before .before .before .before .before .before .before .before .before .before .before .before .before in
+    rw (f .find .ensures) (at-most-four (f .before .before .before .args .p .ty) .1)
 
-put-requires-3 : tie.Need-put-requires-3
-put-requires-3 c κs =
-    let y = c .before .before .before in
-    let x = y .before .before .before .before in
-    let w = x .before .before .before .before in
-    let f = w .before .before in
-    let start = f .before .before .before in
-    let a = start .args in
-    let l = low (contentOf (a .s .now) (a .p)) (start .pre .1) in
-    let h = rw (f .find .ensures) at (x .put .ensures .0) in
-    let k = rw (f .find .ensures) at (y .put2 .ensures .0) in (
-      range-four _ _ _ _ (l .x) (l .y) (l .z) (omega arith),
-      rw (f .find .ensures) (omega (arith, start .pre .2, w .put-one .ensures .0, h, k, length-bytes (a .p .ty), spelled-length (contentOf (a .s .now) (a .p)))),
-    )
+slice-aggregate-write-2 : tie.Need-slice-aggregate-write-2
+slice-aggregate-write-2 c = sym (length-take-le _ _ (array-share-prefix-after (c .before)))
 
 returns : tie.Need-returns
 returns c =
-    let z = c .before .before in
-    let y = z .before .before .before .before in
-    let x = y .before .before .before .before in
-    let w = x .before .before .before .before in
-    let f = w .before .before in
+    let u = c .before .before .before in
+    let t = u .before .before .before .before .before in
+    let b = t .before .before in
+    let w = b .before .before .before in
+    let d = w .before .before .before in
+    let v = d .before .before .before in
+    let f = v .before .before .before .before in
     let start = f .before .before .before in
     let a = start .args in
-    let e = f .find .ensures in
-    let h = rw e at (x .put .ensures .0) in
-    let k = rw e at (y .put2 .ensures .0) in
-    let l = rw e at (z .put3 .ensures .0) in (
-      omega (arith, w .put-one .ensures .0, h, k, l, length-bytes (a .p .ty), spelled-length (contentOf (a .s .now) (a .p))),
-      rw (z .put3 .ensures .1, y .put2 .ensures .1, x .put .ensures .1, w .put-one .ensures .1, y .put2 .ensures .0, x .put .ensures .0, w .put-one .ensures .0, e) (sym (spelled-sets (contentOf (a .s .now) (a .p)) (a .out .now) (a .at))),
-    )
+    let g = f .find .ensures in
+    let x = type-put (contentOf (a .s .now) (a .p)) (start .pre .0) (start .pre .1) (a .out .now) (a .at) (start .pre .2) (v .write .ensures) (d .past .ensures) in
+    let y = front-put (contentOf (a .s .now) (a .p)) (start .pre .0) (start .pre .1) (a .out .now) (a .at) (start .pre .2) x (rw g at (w .write2 .ensures)) (b .past2 .ensures) in
+    back-put (contentOf (a .s .now) (a .p)) (start .pre .0) (start .pre .1) (a .out .now) (a .at) (start .pre .2) x y (rw g at (t .put .ensures)) (rw g at (u .write3 .ensures)) (c .past3 .ensures)
 
 pub put-spec : {M : Type 1} → statement M
 put-spec =
     tie.close
     (tie.spec
     (λ c κs. search needs)
-    put-one-requires
+    (λ c. search needs)
+    (λ c. search needs)
+    (λ c κs. search needs)
+    (λ c κs. search needs)
+    array-share-prefix-numbers
+    slice-aggregate-write
+    (λ c κs. search needs)
+    (λ c κs. search needs)
     put-requires
-    put-requires-2
-    put-requires-3
+    array-share-prefix-after
+    slice-aggregate-write-2
+    (λ c κs. search needs)
+    (λ c κs. search needs)
     (λ c. search needs)
     returns)
