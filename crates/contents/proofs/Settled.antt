@@ -11,7 +11,7 @@ use Rattle.frames.specs.Fields.{frameOf}
 use Rattle.frames.specs.declared.Parts.{Parts}
 use Rattle.frames.specs.declared.Frame.{Frame}
 use Rattle.frames.specs.declared.Frame.the-variants.{Padding, Ping, Ack, AckEcn, ResetStream, StopSending, Crypto, NewToken, Stream, MaxData, MaxStreamData, MaxStreams, DataBlocked, StreamDataBlocked, StreamsBlocked, NewConnectionId, RetireConnectionId, PathChallenge, PathResponse, ConnectionClose, ApplicationClose, HandshakeDone}
-use Rattle.contents.specs.Parts.{streamType, maxStreamsType, streamsBlockedType, holdingParts, partsOf}
+use Rattle.contents.specs.Parts.{streamType, wayType, holdingParts, partsOf}
 use Rattle.contents.specs.Again.{again, moved, ended}
 
 -- the parts that a reader finds are the same but for the places of bytes; the bytes are never left to end with the packet; put together and taken apart again they are the same; and the type is one of section 19
@@ -31,7 +31,7 @@ stream id offset false at len false e = let z : offset ≡ 0 = omega (arith, ltb
 stream id offset true at len false e = let z : offset ≡ 0 = omega (arith, ltb-false 0 offset e) in rw z (λ at token. refl, refl, λ at token. refl, refl)
 
 pub settled : (f : Frame) → Settled (partsOf f)
-unfolding layouts layoutOf known frameOf maxStreamsType streamsBlockedType
+unfolding layouts layoutOf known frameOf wayType
 settled Padding = (λ at token. refl, refl, λ at token. refl, refl)
 settled Ping = (λ at token. refl, refl, λ at token. refl, refl)
 settled (Ack a b c d at) = (λ at token. refl, refl, λ at token. refl, refl)

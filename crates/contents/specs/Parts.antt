@@ -13,11 +13,9 @@ streamType offset fin =
     ltb 0 offset ⇒ (fin ⇒ 0x0f ∣ 0x0e)
     ∣ (fin ⇒ 0x0b ∣ 0x0a)
 
-unfoldable pub maxStreamsType : Bool → ℕ
-maxStreamsType uni = uni ⇒ 0x13 ∣ 0x12
-
-unfoldable pub streamsBlockedType : Bool → ℕ
-streamsBlockedType uni = uni ⇒ 0x17 ∣ 0x16
+-- of two types the one for one-way streams, or the one for two-way streams
+unfoldable pub wayType : Bool → ℕ → ℕ → ℕ
+wayType uni one two = uni ⇒ one ∣ two
 
 -- of numbers alone
 abbrev pub plainParts : ℕ → ℕ → ℕ → ℕ → Parts
@@ -39,10 +37,10 @@ partsOf (NewToken at len) = holdingParts 0x07 0 0 at len
 partsOf (Stream id offset fin at len) = holdingParts (streamType offset fin) id offset at len
 partsOf (MaxData maximum) = plainParts 0x10 maximum 0 0
 partsOf (MaxStreamData id maximum) = plainParts 0x11 id maximum 0
-partsOf (MaxStreams uni maximum) = plainParts (maxStreamsType uni) maximum 0 0
+partsOf (MaxStreams uni maximum) = plainParts (wayType uni 0x13 0x12) maximum 0 0
 partsOf (DataBlocked maximum) = plainParts 0x14 maximum 0 0
 partsOf (StreamDataBlocked id maximum) = plainParts 0x15 id maximum 0
-partsOf (StreamsBlocked uni maximum) = plainParts (streamsBlockedType uni) maximum 0 0
+partsOf (StreamsBlocked uni maximum) = plainParts (wayType uni 0x17 0x16) maximum 0 0
 partsOf (NewConnectionId sequence retire at len token) = record { ty = 0x18; a = sequence; b = retire; c = 0; d = 0; at = at; len = len; token = token; x = 0; y = 0; z = 0 }
 partsOf (RetireConnectionId sequence) = plainParts 0x19 sequence 0 0
 partsOf (PathChallenge at) = holdingParts 0x1a 0 0 at 8

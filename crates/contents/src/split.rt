@@ -1,6 +1,6 @@
 // A frame taken apart: the type under which it is written, its numbers and its places.
 ghost use mathlib.Core.Path.{_≡_};
-ghost use Rattle.contents.specs.Parts.{streamType, maxStreamsType, streamsBlockedType, plainParts, holdingParts, partsOf};
+ghost use Rattle.contents.specs.Parts.{streamType, wayType, plainParts, holdingParts, partsOf};
 use frames::Frame;
 use frames::Parts;
 
@@ -20,22 +20,14 @@ fn stream_type(offset: u64, fin: bool) -> u64
     10
 }
 
-fn max_streams_type(uni: bool) -> u64
-    ensures { λ r. ⌜ r ≡ maxStreamsType uni ⌝ }
+// Of two types the one for one-way streams, or the one for two-way streams.
+fn way_type(uni: bool, one: u64, two: u64) -> u64
+    ensures { λ r. ⌜ r ≡ wayType uni one two ⌝ }
 {
     if uni {
-        return 19;
+        return one;
     }
-    18
-}
-
-fn streams_blocked_type(uni: bool) -> u64
-    ensures { λ r. ⌜ r ≡ streamsBlockedType uni ⌝ }
-{
-    if uni {
-        return 23;
-    }
-    22
+    two
 }
 
 // A frame of numbers alone.
@@ -136,10 +128,10 @@ pub fn apart(frame: Frame) -> Parts
         } => holding(stream_type(offset, fin), id, offset, at, len),
         Frame::MaxData { maximum } => plain(16, maximum, 0, 0),
         Frame::MaxStreamData { id, maximum } => plain(17, id, maximum, 0),
-        Frame::MaxStreams { uni, maximum } => plain(max_streams_type(uni), maximum, 0, 0),
+        Frame::MaxStreams { uni, maximum } => plain(way_type(uni, 19, 18), maximum, 0, 0),
         Frame::DataBlocked { maximum } => plain(20, maximum, 0, 0),
         Frame::StreamDataBlocked { id, maximum } => plain(21, id, maximum, 0),
-        Frame::StreamsBlocked { uni, maximum } => plain(streams_blocked_type(uni), maximum, 0, 0),
+        Frame::StreamsBlocked { uni, maximum } => plain(way_type(uni, 23, 22), maximum, 0, 0),
         Frame::NewConnectionId {
             sequence,
             retire,

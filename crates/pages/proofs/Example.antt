@@ -9,8 +9,8 @@ use Rattle.streams.specs.declared.Opened.{Opened}
 use Rattle.streams.specs.declared.Opened.the-variants.{As, Refused}
 use Rattle.taking.specs.Step.{handedOf, handedAt}
 use Rattle.text.specs.Decimal.{digitsOf, decimalOf}
-use Rattle.rows.specs.Row.{fieldOf, typeOf, rowOf}
-use Rattle.rows.specs.Listing.{typeShown, takenRowOf, nextIn, afterOf, closedText, endingOf}
+use Rattle.columns.specs.Row.{fieldOf, typeOf, rowOf, closedText}
+use Rattle.rows.specs.Listing.{typeShown, takenRowOf, nextIn, afterOf, endingOf}
 use Rattle.pages.specs.Pages.{smallOf, withRow, oneMoreOf, pageFrom, pageOf, lastOf}
 use Rattle.pages.specs.declared.Page.{Page}
 use Rattle.wire.specs.Writing.{writes}

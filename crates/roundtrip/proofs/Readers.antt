@@ -39,7 +39,7 @@ use Rattle.ranges.proofs.Sound.{with-ranges}
 use Rattle.writing.proofs.Bodies.{wholly}
 use Rattle.writing.proofs.Bounds.{identity-short}
 use Rattle.contents.proofs.Taking.{fine}
-use Rattle.contents.specs.Parts.{streamType, maxStreamsType, streamsBlockedType, holdingParts, partsOf}
+use Rattle.contents.specs.Parts.{streamType, wayType, holdingParts, partsOf}
 use Rattle.contents.specs.Content.{bodyOf, tokenInside, wholeOf, contentOf, contents}
 use Rattle.contents.specs.Taken.{fitting, takes}
 use Rattle.contents.specs.Again.{first, atIn, lenIn, tokenIn, again}
@@ -74,7 +74,7 @@ Line ty =
     × ((a b len : ℕ) → faultOf ty a b len ≡ false → Low (layoutOf ty .tail) len)
 
 lines : Lines Line 0 31
-unfolding layouts layoutOf frameOf faultOf maxStreamsType streamsBlockedType
+unfolding layouts layoutOf frameOf faultOf wayType
 lines =
     -- 0x00 PADDING to 0x07 NEW_TOKEN
     0x00 says (λ e p. (refl, λ a b len h. tt)) and

@@ -6,8 +6,6 @@ use denote.Ref.{now}
 use Rattle.answers.specs.Firm.{Firm, FirmAnswer}
 use Rattle.answers.proofs.Firm.{equation, outcome-equation}
 use Rattle.wire.specs.declared.Wrote.{Wrote}
-use Rattle.rows.proofs.row.Kinds as row
-use Rattle.rows.proofs.row.Reads as row-reads
 use Rattle.rows.proofs.taken.too_long.Kinds as too-long
 use Rattle.rows.proofs.taken.too_long.Reads as too-long-reads
 use Rattle.rows.proofs.taken.taken_row.Kinds as taken-row
@@ -16,9 +14,6 @@ use Rattle.rows.proofs.taken.after.Kinds as after
 use Rattle.rows.proofs.taken.after.Reads as after-reads
 use Rattle.rows.proofs.taken.ending.Kinds as ending
 use Rattle.rows.proofs.taken.ending.Reads as ending-reads
-
-pub row-firm : Firm 1 row.ps row.r row-reads.Asked row-reads.Post (λ κs. Wrote × List ℕ) (λ κs x s. (x, now (s .0)))
-row-firm = outcome-equation
 
 pub too-long-firm : FirmAnswer 0 too-long.ps too-long.r too-long-reads.Asked too-long-reads.Post
 too-long-firm = equation

@@ -11,9 +11,9 @@ use Rattle.streams.specs.Conn.{isOpen}
 use Rattle.taking.specs.declared.Handed.{Handed}
 use Rattle.taking.specs.declared.Handed.the-variants.{Nothing, Named, Whole}
 use Rattle.taking.specs.declared.TookFrame.{TookFrame}
-use Rattle.rows.specs.Row.{fieldOf, rowOf}
-use Rattle.rows.specs.declared.Shown.{Shown}
-use Rattle.rows.specs.declared.Shown.the-variants.{Is, Unread}
+use Rattle.columns.specs.Row.{fieldOf, rowOf, closedText}
+use Rattle.columns.specs.declared.Shown.{Shown}
+use Rattle.columns.specs.declared.Shown.the-variants.{Is, Unread}
 
 -- "at most 65,527 bytes"
 unfoldable pub tooLong : ℕ → Bool
@@ -40,10 +40,6 @@ unfoldable pub afterOf : TookFrame → ℕ → ℕ
 afterOf took end =
     isOpen (took .conn .mark) ⇒ nextIn (took .handed) end
     ∣ end
-
--- "closed ", before a code
-unfoldable pub closedText : List ℕ
-closedText = 99 ∷ 108 ∷ 111 ∷ 115 ∷ 101 ∷ 100 ∷ 32 ∷ []
 
 -- "the last line is "open", "closed" with a code, or "closed by peer""
 unfoldable pub endingOf : Mark → List ℕ

@@ -1,10 +1,8 @@
 // What the listing writes of a frame that was taken, where it goes on, and its last line.
 ghost use mathlib.Core.Path.{_≡_};
-ghost use mathlib.Core.List.{_++_};
 ghost use Rattle.wire.specs.Writing.{Bytes, writes};
-ghost use Rattle.rows.specs.Row.{fieldOf};
-ghost use Rattle.rows.specs.Listing.{tooLong, typeShown, takenRowOf, afterOf, closedText, endingOf};
-use crate::Shown;
+ghost use Rattle.rows.specs.Listing.{tooLong, typeShown, takenRowOf, afterOf, endingOf};
+use columns::Shown;
 use streams::Mark;
 use taking::Handed;
 use taking::TookFrame;
@@ -41,7 +39,7 @@ pub fn taken_row(out: &mut [u8], at: usize, place: usize, took: TookFrame) -> Wr
     let answer = took.answer;
     let code = answer.number();
     let conn = took.conn;
-    crate::row(out, at, place, ty, code, conn.total)
+    columns::row(out, at, place, ty, code, conn.total)
 }
 
 // Where the walk goes on after a frame: at the end if the frame closed the connection.
@@ -65,23 +63,13 @@ pub fn after(took: TookFrame, end: usize) -> usize
     }
 }
 
-// The last line of a connection that was closed with a code.
-fn closed(out: &mut [u8], at: usize, code: u64) -> Wrote
-    ensures { λ r. ⌜ (r, now (out .exit)) ≡ writes (Bytes (closedText ++ fieldOf code 10)) (now (out .entry)) at ⌝ }
-{
-    let mut line = [0u8; 42];
-    put::bytes(&mut line, 0, b"closed ");
-    let end = crate::field(&mut line, 7, code, b'\n');
-    put::bytes(out, at, &line[..end])
-}
-
 // Writes the last line: how the connection stands. A refusal leaves the output untouched.
 pub fn ending(out: &mut [u8], at: usize, mark: Mark) -> Wrote
     ensures { λ r. ⌜ (r, now (out .exit)) ≡ writes (Bytes (endingOf mark)) (now (out .entry)) at ⌝ }
 {
     match mark {
         Mark::Open => put::bytes(out, at, b"open\n"),
-        Mark::Code { answer, ty: _ } => closed(out, at, answer.number()),
+        Mark::Code { answer, ty: _ } => columns::closed(out, at, answer.number()),
         Mark::ByPeer => put::bytes(out, at, b"closed by peer\n"),
     }
 }

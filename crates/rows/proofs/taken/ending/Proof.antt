@@ -1,7 +1,8 @@
 -- `taken::ending` meets its contract: the match is the definition's, and each line is put whole.
 -- Assumes nothing.
 use borrow.Author.Needs.{needs}
-use Rattle.rows.specs.Listing.{closedText, endingOf}
+use Rattle.columns.specs.Row.{closedText}
+use Rattle.rows.specs.Listing.{endingOf}
 use Rattle.rows.proofs.taken.ending.Statement.{statement}
 use Rattle.rows.proofs.taken.ending.Tie as tie
 

@@ -5,9 +5,9 @@ use native.Mathlib.Numerals.{add-one}
 use native.Mathlib.Omega.{arith}
 use borrow.Author.Needs.{needs}
 use lib.ListN.{length-set}
-use Rattle.rows.proofs.Fields.{shown-number, shown-dash}
-use Rattle.rows.proofs.shown_type.Statement.{statement}
-use Rattle.rows.proofs.shown_type.Tie as tie
+use Rattle.columns.proofs.Fields.{shown-number, shown-dash}
+use Rattle.columns.proofs.shown_type.Statement.{statement}
+use Rattle.columns.proofs.shown_type.Tie as tie
 
 returns : tie.Need-returns
 returns c =

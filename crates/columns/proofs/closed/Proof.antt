@@ -1,12 +1,12 @@
--- `taken::closed` meets its contract: the code stands behind the text, and the front of the line is what is put.
+-- `closed` meets its contract: the code stands behind the text, and the front of the line is what is put.
 -- Assumes nothing.
 use mathlib.Core.Path.{sym}
 use borrow.Author.Needs.{needs}
 use lib.Seq.{length-take-le}
-use Rattle.rows.specs.Listing.{closedText}
-use Rattle.rows.proofs.Fields.{room-for-number, closed-within, closed-front}
-use Rattle.rows.proofs.taken.closed.Statement.{statement}
-use Rattle.rows.proofs.taken.closed.Tie as tie
+use Rattle.columns.specs.Row.{closedText}
+use Rattle.columns.proofs.Fields.{room-for-number, closed-within, closed-front}
+use Rattle.columns.proofs.closed.Statement.{statement}
+use Rattle.columns.proofs.closed.Tie as tie
 
 field-requires : tie.Need-field-requires
 unfolding closedText

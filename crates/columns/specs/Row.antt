@@ -2,8 +2,8 @@
 use Prim.Native.Nat.{ℕ}
 use mathlib.Core.List.{List, [], _∷_, _++_}
 use Rattle.text.specs.Decimal.{decimalOf}
-use Rattle.rows.specs.declared.Shown.{Shown}
-use Rattle.rows.specs.declared.Shown.the-variants.{Is, Unread}
+use Rattle.columns.specs.declared.Shown.{Shown}
+use Rattle.columns.specs.declared.Shown.the-variants.{Is, Unread}
 
 -- a number and the byte behind it
 unfoldable pub fieldOf : ℕ → ℕ → List ℕ
@@ -20,3 +20,7 @@ shownOf ty = typeOf ty ++ (32 ∷ [])
 
 unfoldable pub rowOf : ℕ → Shown → ℕ → ℕ → List ℕ
 rowOf place ty code total = decimalOf place ++ (32 ∷ typeOf ty ++ (32 ∷ decimalOf code ++ (32 ∷ decimalOf total ++ (10 ∷ []))))
+
+-- "closed ", before a code
+unfoldable pub closedText : List ℕ
+closedText = 99 ∷ 108 ∷ 111 ∷ 115 ∷ 101 ∷ 100 ∷ 32 ∷ []

@@ -2,9 +2,9 @@
 -- Assumes nothing.
 use native.Mathlib.Omega.{arith}
 use borrow.Author.Needs.{needs}
-use Rattle.rows.proofs.Fields.{unrefused, next-within, next-stored, field-written}
-use Rattle.rows.proofs.field.Statement.{statement}
-use Rattle.rows.proofs.field.Tie as tie
+use Rattle.columns.proofs.Fields.{unrefused, next-within, next-stored, field-written}
+use Rattle.columns.proofs.field.Statement.{statement}
+use Rattle.columns.proofs.field.Tie as tie
 
 returns : tie.Need-returns
 returns c =

@@ -3,9 +3,9 @@
 use mathlib.Core.Path.{sym}
 use borrow.Author.Needs.{needs}
 use lib.Seq.{length-take-le}
-use Rattle.rows.proofs.Fields.{room-for-type, room-for-code, room-for-total, row-within, row-front}
-use Rattle.rows.proofs.row.Statement.{statement}
-use Rattle.rows.proofs.row.Tie as tie
+use Rattle.columns.proofs.Fields.{room-for-type, room-for-code, room-for-total, row-within, row-front}
+use Rattle.columns.proofs.row.Statement.{statement}
+use Rattle.columns.proofs.row.Tie as tie
 
 shown-type-requires : tie.Need-shown-type-requires
 shown-type-requires c κs =

@@ -15,10 +15,10 @@ use Rattle.wire.specs.declared.Wrote.the-variants.{To, Refused}
 use Rattle.wire.proofs.Standing.{sets-append}
 use Rattle.wire.proofs.Writing.{all-written, bytes-written, bytes-unrefused}
 use Rattle.text.specs.Decimal.{digitsOf, decimalOf}
-use Rattle.rows.specs.Row.{fieldOf, typeOf, shownOf, rowOf}
-use Rattle.rows.specs.Listing.{closedText}
-use Rattle.rows.specs.declared.Shown.{Shown}
-use Rattle.rows.specs.declared.Shown.the-variants.{Is, Unread}
+use Rattle.columns.specs.Row.{fieldOf, typeOf, shownOf, rowOf}
+use Rattle.columns.specs.Row.{closedText}
+use Rattle.columns.specs.declared.Shown.{Shown}
+use Rattle.columns.specs.declared.Shown.the-variants.{Is, Unread}
 
 digits-size : (k n : ℕ) → length (digitsOf k n) ≤ k
 unfolding digitsOf
