@@ -69,6 +69,7 @@ fn body_fits(tail: Tail, p: Parts, s: &[u8]) -> bool
     }
 }
 
+// Whether a frame of these parts, whose places refer to s, can be written.
 pub fn writable(p: Parts, s: &[u8]) -> bool
     ensures { λ r. ⌜ r ≡ takes (contentOf (now (s .entry)) p) ⌝ }
 {

@@ -68,6 +68,7 @@ fn holding(ty: u64, a: u64, b: u64, at: usize, len: usize) -> Parts
     }
 }
 
+// The parts of a frame: each kind of frame has its row here.
 pub fn apart(frame: Frame) -> Parts
     ensures { λ r. ⌜ r ≡ partsOf frame ⌝ }
 {

@@ -40,5 +40,5 @@ pub fn list(s: &[u8]) {
     };
     let mut buf = io::large_buffer();
     let mark = walk(first, s, &mut buf);
-    output::standing(pages::last(s.len(), mark));
+    output::standing(rows::taken::last(s.len(), mark));
 }

@@ -10,8 +10,8 @@ use Rattle.streams.specs.declared.Opened.the-variants.{As, Refused}
 use Rattle.taking.specs.Step.{handedOf, handedAt}
 use Rattle.text.specs.Decimal.{digitsOf, decimalOf}
 use Rattle.columns.specs.Row.{fieldOf, typeOf, rowOf, closedText}
-use Rattle.rows.specs.Listing.{typeShown, takenRowOf, nextIn, afterOf, endingOf}
-use Rattle.pages.specs.Pages.{smallOf, withRow, oneMoreOf, pageFrom, pageOf, lastOf}
+use Rattle.rows.specs.Listing.{typeShown, takenRowOf, nextIn, afterOf, lastOf, endingOf}
+use Rattle.pages.specs.Pages.{smallOf, withRow, oneMoreOf, pageFrom, pageOf}
 use Rattle.pages.specs.declared.Page.{Page}
 use Rattle.wire.specs.Writing.{writes}
 use Rattle.wire.specs.Number.{numberAt, fieldAt, valuesIn, bigEndian, shortest, sizeOf, formOf}

@@ -10,14 +10,9 @@ use Rattle.pages.proofs.small.Kinds as small
 use Rattle.pages.proofs.small.Reads as small-reads
 use Rattle.pages.proofs.fill.Kinds as fill
 use Rattle.pages.proofs.fill.Reads as fill-reads
-use Rattle.pages.proofs.last.Kinds as last
-use Rattle.pages.proofs.last.Reads as last-reads
 
 pub small-firm : FirmAnswer 0 small.ps small.r small-reads.Asked small-reads.Post
 small-firm = equation
 
 pub fill-firm : Firm 2 fill.ps fill.r fill-reads.Asked fill-reads.Post (λ κs. Page × List ℕ) (λ κs x s. (x, now (s .1 .1 .0)))
 fill-firm = outcome-equation
-
-pub last-firm : FirmAnswer 0 last.ps last.r last-reads.Asked last-reads.Post
-last-firm = equation

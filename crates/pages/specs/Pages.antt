@@ -3,16 +3,13 @@ use Prim.Native.Nat.{ℕ, zero, suc}
 use mathlib.Core.Bool.{true, false, _||_}
 use mathlib.Core.List.{List}
 use lib.ListN.{length, replicate}
-use lib.Dec.{leb, eqb}
+use lib.Dec.{leb}
 use Rattle.answers.specs.Choice.{_⇒_∣_}
-use Rattle.answers.specs.declared.Answer.the-variants.{ProtocolViolation}
 use Rattle.wire.specs.Writing.{Bytes, writes}
 use Rattle.wire.specs.declared.Wrote.{Wrote}
 use Rattle.wire.specs.declared.Wrote.the-variants.{To, Refused}
 use Rattle.frames.specs.declared.Kind.the-variants.{OneRtt}
 use Rattle.streams.specs.Entry.{fresh}
-use Rattle.streams.specs.declared.Mark.{Mark}
-use Rattle.streams.specs.declared.Mark.the-variants.{Code}
 use Rattle.accounts.specs.Neighbours.{small}
 use Rattle.held.specs.Held.{heldOpenedOf, heldFrameOf}
 use Rattle.held.specs.declared.HeldOpened.{HeldOpened}
@@ -58,9 +55,3 @@ turned p = record { conn = p .conn; table = p .table; at = p .at; used = 0; full
 -- a page behind another: a payload has no more frames than bytes
 unfoldable pub pageOf : Page → List ℕ → List ℕ → Page × List ℕ
 pageOf p s out = pageFrom (length s) (turned p) s out
-
--- how the connection stands in the end: a payload of n bytes without frames breaks the protocol
-unfoldable pub lastOf : ℕ → Mark → Mark
-lastOf n mark =
-    eqb n 0 ⇒ Code ProtocolViolation 0
-    ∣ mark

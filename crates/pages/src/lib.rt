@@ -1,13 +1,11 @@
 // The listing of a payload (document 01, "Bench examples"), as many rows at a time as an output holds.
 ghost use mathlib.Core.Path.{_≡_};
-ghost use Rattle.pages.specs.Pages.{smallOf, oneMoreOf, pageOf, lastOf};
-use answers::Answer;
+ghost use Rattle.pages.specs.Pages.{smallOf, oneMoreOf, pageOf};
 use frames::Kind;
 use held::HeldOpened;
 use rows::taken;
 use streams::Conn;
 use streams::Entry;
-use streams::Mark;
 use wire::Wrote;
 
 // How far a listing is: the connection and its table, the place of the next frame, how much of the output is used, and
@@ -75,17 +73,4 @@ pub fn fill(p: Page, s: &[u8], out: &mut [u8]) -> Page
         left -= 1;
     }
     now
-}
-
-// How the connection stands in the end, after a payload of n bytes: one without frames breaks the protocol.
-pub fn last(n: usize, mark: Mark) -> Mark
-    ensures { λ r. ⌜ r ≡ lastOf n mark ⌝ }
-{
-    if n == 0 {
-        return Mark::Code {
-            answer: Answer::ProtocolViolation,
-            ty: 0,
-        };
-    }
-    mark
 }

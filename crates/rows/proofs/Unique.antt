@@ -12,6 +12,8 @@ use Rattle.rows.proofs.taken.taken_row.Kinds as taken-row
 use Rattle.rows.proofs.taken.taken_row.Reads as taken-row-reads
 use Rattle.rows.proofs.taken.after.Kinds as after
 use Rattle.rows.proofs.taken.after.Reads as after-reads
+use Rattle.rows.proofs.taken.last.Kinds as last
+use Rattle.rows.proofs.taken.last.Reads as last-reads
 use Rattle.rows.proofs.taken.ending.Kinds as ending
 use Rattle.rows.proofs.taken.ending.Reads as ending-reads
 
@@ -23,6 +25,9 @@ taken-row-firm = outcome-equation
 
 pub after-firm : FirmAnswer 0 after.ps after.r after-reads.Asked after-reads.Post
 after-firm = equation
+
+pub last-firm : FirmAnswer 0 last.ps last.r last-reads.Asked last-reads.Post
+last-firm = equation
 
 pub ending-firm : Firm 1 ending.ps ending.r ending-reads.Asked ending-reads.Post (λ κs. Wrote × List ℕ) (λ κs x s. (x, now (s .0)))
 ending-firm = outcome-equation

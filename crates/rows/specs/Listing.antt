@@ -2,9 +2,10 @@
 use Prim.Native.Nat.{ℕ}
 use mathlib.Core.Bool.{Bool}
 use mathlib.Core.List.{List, [], _∷_, _++_}
-use lib.Dec.{ltb}
+use lib.Dec.{ltb, eqb}
 use Rattle.answers.specs.Choice.{_⇒_∣_}
 use Rattle.answers.specs.Answers.{numberOf}
+use Rattle.answers.specs.declared.Answer.the-variants.{ProtocolViolation}
 use Rattle.streams.specs.declared.Mark.{Mark}
 use Rattle.streams.specs.declared.Mark.the-variants.{Open, Code, ByPeer}
 use Rattle.streams.specs.Conn.{isOpen}
@@ -40,6 +41,12 @@ unfoldable pub afterOf : TookFrame → ℕ → ℕ
 afterOf took end =
     isOpen (took .conn .mark) ⇒ nextIn (took .handed) end
     ∣ end
+
+-- how the connection stands in the end: a payload of n bytes without frames breaks the protocol
+unfoldable pub lastOf : ℕ → Mark → Mark
+lastOf n mark =
+    eqb n 0 ⇒ Code ProtocolViolation 0
+    ∣ mark
 
 -- "the last line is "open", "closed" with a code, or "closed by peer""
 unfoldable pub endingOf : Mark → List ℕ

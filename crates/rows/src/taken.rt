@@ -1,7 +1,8 @@
 // What the listing writes of a frame that was taken, where it goes on, and its last line.
 ghost use mathlib.Core.Path.{_≡_};
 ghost use Rattle.wire.specs.Writing.{Bytes, writes};
-ghost use Rattle.rows.specs.Listing.{tooLong, typeShown, takenRowOf, afterOf, endingOf};
+ghost use Rattle.rows.specs.Listing.{tooLong, typeShown, takenRowOf, afterOf, lastOf, endingOf};
+use answers::Answer;
 use columns::Shown;
 use streams::Mark;
 use taking::Handed;
@@ -61,6 +62,19 @@ pub fn after(took: TookFrame, end: usize) -> usize
             next,
         } => next,
     }
+}
+
+// How the connection stands in the end, after a payload of n bytes: one without frames breaks the protocol.
+pub fn last(n: usize, mark: Mark) -> Mark
+    ensures { λ r. ⌜ r ≡ lastOf n mark ⌝ }
+{
+    if n == 0 {
+        return Mark::Code {
+            answer: Answer::ProtocolViolation,
+            ty: 0,
+        };
+    }
+    mark
 }
 
 // Writes the last line: how the connection stands. A refusal leaves the output untouched.

@@ -1,9 +1,9 @@
--- `pages::last` meets its contract: the test is the definition's.
+-- `taken::last` meets its contract: the test is the definition's.
 -- Assumes nothing.
 use borrow.Author.Tests.{eq-eqb, ne-eqb}
-use Rattle.pages.specs.Pages.{lastOf}
-use Rattle.pages.proofs.last.Statement.{statement}
-use Rattle.pages.proofs.last.Tie as tie
+use Rattle.rows.specs.Listing.{lastOf}
+use Rattle.rows.proofs.taken.last.Statement.{statement}
+use Rattle.rows.proofs.taken.last.Tie as tie
 
 returns : tie.Need-returns
 unfolding lastOf
