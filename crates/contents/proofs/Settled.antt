@@ -6,9 +6,9 @@ use Prim.Native.Nat.{ℕ}
 use native.Mathlib.Omega.{arith}
 use borrow.Author.Tests.{ltb-false}
 use lib.Dec.{ltb}
-use Rattle.frames.specs.Layout.{layouts, layoutOf, known}
+use Rattle.layouts.specs.Layout.{layouts, layoutOf, known}
 use Rattle.frames.specs.Fields.{frameOf}
-use Rattle.frames.specs.declared.Parts.{Parts}
+use Rattle.fields.specs.declared.Parts.{Parts}
 use Rattle.frames.specs.declared.Frame.{Frame}
 use Rattle.frames.specs.declared.Frame.the-variants.{Padding, Ping, Ack, AckEcn, ResetStream, StopSending, Crypto, NewToken, Stream, MaxData, MaxStreamData, MaxStreams, DataBlocked, StreamDataBlocked, StreamsBlocked, NewConnectionId, RetireConnectionId, PathChallenge, PathResponse, ConnectionClose, ApplicationClose, HandshakeDone}
 use Rattle.contents.specs.Parts.{streamType, wayType, holdingParts, partsOf}

@@ -9,9 +9,9 @@ use borrow.Author.Tests.{le-leb, lt-leb}
 use types.Run.{OneOf, miss}
 use lib.Dec.{leb}
 use Rattle.answers.proofs.Choice.{below-or-not}
-use Rattle.frames.specs.declared.Parts.{Parts}
-use Rattle.frames.specs.declared.Tail.{Tail}
-use Rattle.frames.specs.declared.Tail.the-variants.{Nothing, Counted, Remainder, Eight, Identity, Ranges}
+use Rattle.fields.specs.declared.Parts.{Parts}
+use Rattle.layouts.specs.declared.Tail.{Tail}
+use Rattle.layouts.specs.declared.Tail.the-variants.{Nothing, Counted, Remainder, Eight, Identity, Ranges}
 use Rattle.contents.specs.Content.{tokenInside}
 use Rattle.contents.specs.Taken.{fitting}
 

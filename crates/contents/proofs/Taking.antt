@@ -6,8 +6,8 @@ use mathlib.Core.List.{[], _∷_}
 use Prim.Native.Nat.{_^_, _<_}
 use borrow.Author.Tests.{not-true}
 use Rattle.row.specs.Row.{inRange}
-use Rattle.frames.specs.Layout.{layoutOf}
-use Rattle.frames.specs.Faults.{faultOf}
+use Rattle.layouts.specs.Layout.{layoutOf}
+use Rattle.fields.specs.Faults.{faultOf}
 use Rattle.contents.specs.Content.{Content}
 use Rattle.contents.specs.Taken.{takes, fitting}
 use Rattle.contents.proofs.Ones.{first-in-range}

@@ -3,10 +3,10 @@ use Prim.Native.Nat.{ℕ}
 use mathlib.Core.Bool.{Bool, true, false}
 use lib.Dec.{ltb}
 use Rattle.answers.specs.Choice.{_⇒_∣_}
-use Rattle.frames.specs.Layout.{layoutOf}
-use Rattle.frames.specs.declared.Tail.{Tail}
-use Rattle.frames.specs.declared.Tail.the-variants.{Nothing, Counted, Remainder, Eight, Identity, Ranges}
-use Rattle.frames.specs.declared.Parts.{Parts}
+use Rattle.layouts.specs.Layout.{layoutOf}
+use Rattle.layouts.specs.declared.Tail.{Tail}
+use Rattle.layouts.specs.declared.Tail.the-variants.{Nothing, Counted, Remainder, Eight, Identity, Ranges}
+use Rattle.fields.specs.declared.Parts.{Parts}
 
 -- a place, unless the tail has none
 abbrev pub atIn : Tail → ℕ → ℕ

@@ -6,10 +6,10 @@ use lib.ListN.{length}
 use lib.Seq.{slice}
 use lib.Dec.{leb}
 use Rattle.ranges.specs.Listed.{listed}
-use Rattle.frames.specs.Layout.{layoutOf}
-use Rattle.frames.specs.declared.Tail.{Tail}
-use Rattle.frames.specs.declared.Tail.the-variants.{Nothing, Counted, Remainder, Eight, Identity, Ranges}
-use Rattle.frames.specs.declared.Parts.{Parts}
+use Rattle.layouts.specs.Layout.{layoutOf}
+use Rattle.layouts.specs.declared.Tail.{Tail}
+use Rattle.layouts.specs.declared.Tail.the-variants.{Nothing, Counted, Remainder, Eight, Identity, Ranges}
+use Rattle.fields.specs.declared.Parts.{Parts}
 use Rattle.frames.specs.declared.Frame.{Frame}
 use Rattle.contents.specs.Parts.{partsOf}
 

@@ -5,10 +5,10 @@ use mathlib.Core.List.{List, [], _∷_}
 use lib.Dec.{leb}
 use Rattle.row.specs.Row.{inRange}
 use Rattle.ranges.specs.Listed.{fits}
-use Rattle.frames.specs.Layout.{layoutOf}
-use Rattle.frames.specs.Faults.{faultOf}
-use Rattle.frames.specs.declared.Tail.{Tail}
-use Rattle.frames.specs.declared.Tail.the-variants.{Nothing, Counted, Remainder, Eight, Identity, Ranges}
+use Rattle.layouts.specs.Layout.{layoutOf}
+use Rattle.fields.specs.Faults.{faultOf}
+use Rattle.layouts.specs.declared.Tail.{Tail}
+use Rattle.layouts.specs.declared.Tail.the-variants.{Nothing, Counted, Remainder, Eight, Identity, Ranges}
 use Rattle.contents.specs.Content.{Content}
 
 -- no run of an ACK goes below number 0, and all its ranges are there

@@ -8,8 +8,8 @@ ghost use Rattle.ranges.specs.Listed.{listed, fits};
 ghost use Rattle.row.specs.Row.{inRange};
 ghost use Rattle.contents.specs.Content.{bodyOf, tokenInside, wholeOf, contentOf};
 ghost use Rattle.contents.specs.Taken.{fitting, takes};
-use frames::Parts;
-use frames::Tail;
+use fields::Parts;
+use layouts::Tail;
 use ranges::Ranges;
 
 fn token_inside(tail: Tail, p: Parts, n: usize) -> bool
@@ -73,7 +73,7 @@ fn body_fits(tail: Tail, p: Parts, s: &[u8]) -> bool
 pub fn writable(p: Parts, s: &[u8]) -> bool
     ensures { λ r. ⌜ r ≡ takes (contentOf (now (s .entry)) p) ⌝ }
 {
-    let l = frames::table::find(p.ty);
+    let l = layouts::table::find(p.ty);
     let tail = l.tail;
     if !inside(tail, p, s.len()) {
         return false;
@@ -81,7 +81,7 @@ pub fn writable(p: Parts, s: &[u8]) -> bool
     if !in_range(p) {
         return false;
     }
-    if frames::rules::fault(p.ty, p.a, p.b, p.len as u64) {
+    if fields::faults::fault(p.ty, p.a, p.b, p.len as u64) {
         return false;
     }
     body_fits(tail, p, s)

@@ -2,7 +2,7 @@
 ghost use mathlib.Core.Path.{_≡_};
 ghost use Rattle.contents.specs.Parts.{streamType, wayType, plainParts, holdingParts, partsOf};
 use frames::Frame;
-use frames::Parts;
+use fields::Parts;
 
 // STREAM with LEN always, and with OFF exactly when the offset is not 0.
 fn stream_type(offset: u64, fin: bool) -> u64

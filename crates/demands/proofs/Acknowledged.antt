@@ -19,10 +19,11 @@ use Rattle.ranges.specs.Walk.{firstOf, stepOf}
 use Rattle.ranges.specs.declared.Range.the-variants.{Spans}
 use Rattle.ranges.specs.declared.Ranges.the-variants as Ranges'
 use Rattle.ranges.proofs.Steps.{below-spans}
-use Rattle.frames.specs.Layout.{layouts, layoutOf, known}
-use Rattle.frames.specs.Body.{optionalAt, numbersAt, rangedAt}
-use Rattle.frames.specs.Faults.{faultOf}
-use Rattle.frames.specs.Fields.{frameOf, endedAt, fieldsAt}
+use Rattle.layouts.specs.Layout.{layouts, layoutOf, known}
+use Rattle.layouts.specs.Body.{optionalAt, numbersAt, rangedAt}
+use Rattle.fields.specs.Faults.{faultOf}
+use Rattle.fields.specs.Parts.{endedAt, partsAt}
+use Rattle.frames.specs.Fields.{frameOf, fieldsAt}
 use Rattle.frames.specs.declared.Frame.the-variants.{Ack}
 use Rattle.frames.specs.declared.Reading.the-variants.{Got}
 use Rattle.frames.proofs.Order.{fields-last}
@@ -86,7 +87,7 @@ walk-back s n low at (Nothing ∷ runs) a r k h = absurd a
 -- the fields of an ACK: four numbers, the first range not below 0, and the further ranges behind them
 fields-back : (s : List ℕ) (at high delay count first : ℕ) (rest : List ℕ) (n : ℕ) (r : ReadAs s at (high ∷ delay ∷ count ∷ first ∷ rest) n) → first ≤ high
     → rangesAt s count (r .2 .2 .2 .0) (high - first) ≡ Ranges'.To n → fieldsAt s at 2 ≡ Got (Ack high delay count first (r .2 .2 .2 .0)) 2 n
-unfolding fieldsAt endedAt layoutOf layouts numbersAt optionalAt rangedAt faultOf frameOf
+unfolding fieldsAt endedAt partsAt layoutOf layouts numbersAt optionalAt rangedAt faultOf frameOf
 fields-back s at high delay count first rest n r h e = rw (r .1, r .2 .1, r .2 .2 .1, r .2 .2 .2 .1, le-ltb high first h, e)
 
 -- a row that begins with 2 begins with the type of ACK in its shortest form, and the others are read behind it

@@ -2,12 +2,14 @@
 -- Assumes nothing.
 use mathlib.Core.Path.{refl}
 use Rattle.wire.specs.Number.{numberAt, fieldAt, valuesIn, bigEndian, shortest, sizeOf, formOf}
-use Rattle.frames.specs.Layout.{layouts, layoutOf, known}
+use Rattle.layouts.specs.Layout.{layouts, layoutOf, known}
 use Rattle.frames.specs.Admission.{admitted}
-use Rattle.frames.specs.Body.{numbersAt, optionalAt, sizedAt, countedAt, rangedAt}
-use Rattle.frames.specs.Faults.{faultOf, aboveOf}
-use Rattle.frames.specs.Fields.{frameOf, endedAt, fieldsAt}
-use Rattle.frames.specs.Reading.{headAt, frameAt}
+use Rattle.layouts.specs.Body.{numbersAt, optionalAt, sizedAt, countedAt, rangedAt}
+use Rattle.fields.specs.Faults.{faultOf, aboveOf}
+use Rattle.fields.specs.Parts.{endedAt, partsAt}
+use Rattle.frames.specs.Fields.{frameOf, fieldsAt}
+use Rattle.fields.specs.Heads.{headAt}
+use Rattle.frames.specs.Reading.{frameAt}
 use Rattle.numbers.specs.Numbers.{nearestOf, recoveredOf}
 use Rattle.records.specs.Marks.{bit, bitAt, recorded, noneOf, testOf, unmarked, soundOf}
 use Rattle.records.specs.Ring.{wordOf, listOf, slotOf, ringOf, withMark, takenOf}
@@ -26,7 +28,7 @@ use Rattle.demands.specs.Hosts.{hosted}
 use Rattle.demands.specs.Bench.{taken, Bench}
 
 pub bench : Bench
-unfolding numberAt fieldAt valuesIn bigEndian shortest sizeOf formOf layouts layoutOf known admitted numbersAt optionalAt sizedAt countedAt rangedAt faultOf aboveOf frameOf endedAt fieldsAt headAt frameAt nearestOf recoveredOf bit bitAt recorded noneOf testOf unmarked soundOf wordOf listOf slotOf ringOf withMark takenOf listed placeOf finalOf reached upTo openTo markedAs openedConn openingOf rule1 rule2 rule3 rule4 rule5 endsOf endOf ruledOf connAfter entryAfter settledOf judgedOf isFresh entryFitsAs limitsFit countsFit connFits sumTo allTo fits askedOf askedAt turnOf gateOf openingWhen filledTo openedTable turnAt tookFrameOf frameTable hosted taken
+unfolding numberAt fieldAt valuesIn bigEndian shortest sizeOf formOf layouts layoutOf known admitted numbersAt optionalAt sizedAt countedAt rangedAt faultOf aboveOf frameOf endedAt partsAt fieldsAt headAt frameAt nearestOf recoveredOf bit bitAt recorded noneOf testOf unmarked soundOf wordOf listOf slotOf ringOf withMark takenOf listed placeOf finalOf reached upTo openTo markedAs openedConn openingOf rule1 rule2 rule3 rule4 rule5 endsOf endOf ruledOf connAfter entryAfter settledOf judgedOf isFresh entryFitsAs limitsFit countsFit connFits sumTo allTo fits askedOf askedAt turnOf gateOf openingWhen filledTo openedTable turnAt tookFrameOf frameTable hosted taken
 bench = record {
   c1 = refl;
   c2 = refl;

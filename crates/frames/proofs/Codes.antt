@@ -10,18 +10,19 @@ use Rattle.answers.specs.declared.Answer.the-variants.{FrameEncoding, ProtocolV
 use Rattle.answers.proofs.Choice.{holds}
 use Rattle.wire.specs.Number.{numberAt, shortest}
 use Rattle.wire.proofs.Sound as number
-use Rattle.frames.specs.Layout.{layoutOf, known}
-use Rattle.frames.specs.Faults.{faultOf}
-use Rattle.frames.specs.Body.{numbersAt, bodyAt}
-use Rattle.frames.specs.Fields.{endedAt, fieldsAt}
+use Rattle.layouts.specs.Layout.{known}
+use Rattle.fields.specs.Parts.{partsAt}
+use Rattle.frames.specs.Fields.{fieldsAt}
 use Rattle.frames.specs.Admission.{admitted}
-use Rattle.frames.specs.Reading.{headAt, frameAt}
+use Rattle.fields.specs.Heads.{headAt}
+use Rattle.frames.specs.Reading.{admittedHead, frameAt}
 use Rattle.frames.specs.declared.Kind.{Kind}
-use Rattle.frames.specs.declared.Head.{Head}
-use Rattle.frames.specs.declared.Head.the-variants as Head'
+use Rattle.fields.specs.declared.Head.{Head}
+use Rattle.fields.specs.declared.Head.the-variants as Head'
 use Rattle.frames.specs.declared.Reading.{Reading}
 use Rattle.frames.specs.declared.Reading.the-variants.{Got, Refused}
-use Rattle.frames.proofs.Going.{with-numbers, with-body, with-head}
+use Rattle.fields.proofs.Going.{with-fields}
+use Rattle.frames.proofs.Going.{with-head}
 
 abbrev pub SevenOrTen : Answer → Type 0
 SevenOrTen answer = (answer ≡ FrameEncoding) ⊎ (answer ≡ ProtocolViolation)
@@ -43,18 +44,18 @@ head-codes s at =
     holds HeadCoded (not (known ty)) (Head'.Refused FrameEncoding ty) _ (λ u. inl refl) (λ u. tt)))
 
 fields-codes : (s : List ℕ) (at ty : ℕ) → Coded (fieldsAt s at ty)
-unfolding fieldsAt endedAt
-fields-codes s at ty =
-    with-numbers Coded (numbersAt s at (layoutOf ty .numbers)) (Refused FrameEncoding ty) _ (inl refl) (λ a b c d p e.
-    with-body Coded (bodyAt s p (layoutOf ty .tail) a c d) (Refused FrameEncoding ty) _ (inl refl) (λ start len token q g.
-    with-numbers Coded (numbersAt s q (layoutOf ty .after)) (Refused FrameEncoding ty) _ (inl refl) (λ x y z rest n h.
-    holds Coded (faultOf ty a b len) (Refused FrameEncoding ty) _ (λ t. inl refl) (λ t. tt))))
+unfolding fieldsAt
+fields-codes s at ty = with-fields Coded (partsAt s at ty) (Refused FrameEncoding ty) _ (inl refl) (λ p next e. tt)
+
+admitted-codes : (kind : Kind) (h : Head) → HeadCoded h → HeadCoded (admittedHead kind h)
+admitted-codes kind (Head'.Type ty next) c = holds HeadCoded (not (admitted kind ty)) (Head'.Refused ProtocolViolation ty) _ (λ t. inr refl) (λ t. tt)
+admitted-codes kind (Head'.Refused answer ty) c = c
 
 frame-codes : (s : List ℕ) (at : ℕ) (kind : Kind) → Coded (frameAt s at kind)
 unfolding frameAt
 frame-codes s at kind =
-    with-head Coded (headAt s at) _ (λ answer ty e. subst HeadCoded e (head-codes s at)) (λ ty next e.
-    holds Coded (not (admitted kind ty)) (Refused ProtocolViolation ty) _ (λ t. inr refl) (λ t. fields-codes s next ty))
+    with-head Coded (admittedHead kind (headAt s at)) _ (λ answer ty e. subst HeadCoded e (admitted-codes kind (headAt s at) (head-codes s at)))
+    (λ ty next e. fields-codes s next ty)
 
 pub codes : (s : List ℕ) (at : ℕ) (kind : Kind) {answer : Answer} {ty : ℕ} → frameAt s at kind ≡ Refused answer ty → (answer ≡ FrameEncoding) ⊎ (answer ≡ ProtocolViolation)
 codes s at kind e = subst Coded e (frame-codes s at kind)

@@ -1,6 +1,5 @@
-pub mod Places
-pub mod Going
-pub mod Sound
-pub mod Order
-pub mod Unique
 pub mod Codes
+pub mod Going
+pub mod Order
+pub mod Sound
+pub mod Unique

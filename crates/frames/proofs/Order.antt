@@ -7,28 +7,29 @@ use Prim.Native.Nat.{ℕ, _+_, _<_}
 use native.Mathlib.Omega.{arith}
 use borrow.Author.Tests.{eq-eqb}
 use lib.ListN.{length, getD}
-use Rattle.answers.specs.Choice.{_⇒_∣_}
 use Rattle.answers.proofs.Choice.{holds}
 use Rattle.answers.specs.declared.Answer.the-variants.{FrameEncoding, ProtocolViolation}
 use Rattle.wire.specs.Number.{numberAt, formOf, sizeOf, shortest}
 use Rattle.wire.specs.declared.Number.the-variants.{Is, CutShort}
 use Rattle.wire.proofs.Forms.{by-form, form-byte}
-use Rattle.frames.specs.Layout.{layouts, layoutOf, known}
+use Rattle.layouts.specs.Layout.{layouts, layoutOf, known}
 use Rattle.frames.specs.Admission.{admitted}
-use Rattle.frames.specs.Body.{optionalAt, numbersAt}
-use Rattle.frames.specs.Faults.{faultOf}
-use Rattle.frames.specs.Fields.{frameOf, endedAt, fieldsAt}
-use Rattle.frames.specs.Reading.{headAt, withHead, frameAt, anyFrameAt}
+use Rattle.layouts.specs.Body.{optionalAt, numbersAt}
+use Rattle.fields.specs.Faults.{faultOf}
+use Rattle.fields.specs.Parts.{endedAt, partsAt}
+use Rattle.frames.specs.Fields.{frameOf, fieldsAt}
+use Rattle.fields.specs.Heads.{headAt}
+use Rattle.frames.specs.Reading.{withHead, admittedHead, frameAt, anyFrameAt}
 use Rattle.frames.specs.declared.Kind.{Kind}
 use Rattle.frames.specs.declared.Frame.the-variants.{Padding}
-use Rattle.frames.specs.declared.Head.{Head}
-use Rattle.frames.specs.declared.Head.the-variants as Head'
+use Rattle.fields.specs.declared.Head.{Head}
+use Rattle.fields.specs.declared.Head.the-variants as Head'
 use Rattle.frames.specs.declared.Reading.the-variants.{Got, Refused}
 
 module _ (s : List ℕ) (at : ℕ) (kind : Kind) where
   -- what admission leaves alone
   abbrev Same : Head → Type 0
-  Same h = withHead h (λ ty next. not (admitted kind ty) ⇒ Refused ProtocolViolation ty ∣ fieldsAt s next ty) ≡ withHead h (λ ty next. fieldsAt s next ty)
+  Same h = withHead (admittedHead kind h) (λ ty next. fieldsAt s next ty) ≡ withHead h (λ ty next. fieldsAt s next ty)
 
   -- a type that cannot be read: 7, and no type
   pub unreadable : numberAt s at ≡ CutShort → frameAt s at kind ≡ Refused FrameEncoding 0
@@ -71,7 +72,7 @@ any-fields s at e f g = rw (e, f, g)
 
 -- a byte 0 is a PADDING frame in every packet
 pub padding : (s : List ℕ) (at : ℕ) (kind : Kind) → at < length s → getD s at 0 ≡ 0 → frameAt s at kind ≡ Got Padding 0 (at + 1)
-unfolding shortest sizeOf formOf known admitted fieldsAt endedAt layoutOf layouts numbersAt optionalAt faultOf frameOf
+unfolding shortest sizeOf formOf known admitted fieldsAt partsAt endedAt layoutOf layouts numbersAt optionalAt faultOf frameOf
 padding s at kind h e =
     let r : numberAt s at ≡ Is 0 (at + 1) = by-form s at 0 (rw e) ∙ form-byte s at (omega arith) (omega arith) ∙ ap (λ (v : ℕ). Is v (at + 1)) e in
     fields-last s at kind r (eq-eqb (at + 1) (at + 1) refl) refl refl

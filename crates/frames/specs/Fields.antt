@@ -1,14 +1,12 @@
--- The fields of a frame of a known type: read by its layout, refused with 7 where document 01 says so, and put together.
+-- A frame of a known type: its fields put together, and 7 where they cannot be read or have a fault.
 use Prim.Native.Nat.{ℕ, _/_, _%_}
 use mathlib.Core.Bool.{true, false}
 use mathlib.Core.List.{List}
 use lib.Dec.{eqb}
 use Rattle.answers.specs.Choice.{_⇒_∣_}
 use Rattle.answers.specs.declared.Answer.the-variants.{FrameEncoding}
-use Rattle.frames.specs.Layout.{layoutOf}
-use Rattle.frames.specs.Faults.{faultOf}
-use Rattle.frames.specs.Body.{numbersAt, withNumbers, bodyAt, withBody}
-use Rattle.frames.specs.declared.Parts.{Parts}
+use Rattle.fields.specs.Parts.{partsAt, withFields}
+use Rattle.fields.specs.declared.Parts.{Parts}
 use Rattle.frames.specs.declared.Frame.{Frame}
 use Rattle.frames.specs.declared.Frame.the-variants.{Padding, Ping, Ack, AckEcn, ResetStream, StopSending, Crypto, NewToken, Stream, MaxData, MaxStreamData, MaxStreams, DataBlocked, StreamDataBlocked, StreamsBlocked, NewConnectionId, RetireConnectionId, PathChallenge, PathResponse, ConnectionClose, ApplicationClose, HandshakeDone}
 use Rattle.frames.specs.declared.Reading.{Reading}
@@ -42,17 +40,6 @@ frameOf p =
     ∣ eqb (p .ty) 0x1d ⇒ ApplicationClose (p .a) (p .at) (p .len)
     ∣ HandshakeDone
 
--- the numbers behind a frame's bytes, and the frame, unless it has a fault
-unfoldable pub endedAt : List ℕ → ℕ → ℕ → Parts → Reading
-endedAt s at after p =
-    withNumbers (numbersAt s at after) (Refused FrameEncoding (p .ty)) (λ x y z rest next.
-    faultOf (p .ty) (p .a) (p .b) (p .len) ⇒ Refused FrameEncoding (p .ty)
-    ∣ Got (frameOf (record { ty = p .ty; a = p .a; b = p .b; c = p .c; d = p .d; at = p .at; len = p .len; token = p .token; x = x; y = y; z = z })) (p .ty) next)
-
--- the fields at a place
+-- the fields at a place, put together
 unfoldable pub fieldsAt : List ℕ → ℕ → ℕ → Reading
-fieldsAt s at ty =
-    let l = layoutOf ty in
-    withNumbers (numbersAt s at (l .numbers)) (Refused FrameEncoding ty) (λ a b c d p.
-    withBody (bodyAt s p (l .tail) a c d) (Refused FrameEncoding ty) (λ start len token q.
-    endedAt s q (l .after) (record { ty = ty; a = a; b = b; c = c; d = d; at = start; len = len; token = token; x = 0; y = 0; z = 0 })))
+fieldsAt s at ty = withFields (partsAt s at ty) (Refused FrameEncoding ty) (λ p next. Got (frameOf p) ty next)

@@ -4,19 +4,19 @@ use Prim.Native.Nat.{ℕ, _≤_, _<_}
 use mathlib.Core.Bool.{false}
 use mathlib.Core.List.{List}
 use lib.ListN.{length}
-use Rattle.frames.specs.Layout.{layoutOf}
-use Rattle.frames.specs.Faults.{faultOf}
-use Rattle.frames.specs.Body.{numbersAt, bodyAt}
+use Rattle.layouts.specs.Layout.{layoutOf}
+use Rattle.fields.specs.Faults.{faultOf}
+use Rattle.layouts.specs.Body.{numbersAt, bodyAt}
 use Rattle.frames.specs.Fields.{frameOf}
-use Rattle.frames.specs.declared.Numbers.the-variants.{Are}
-use Rattle.frames.specs.declared.Body.the-variants.{Is}
+use Rattle.layouts.specs.declared.Numbers.the-variants.{Are}
+use Rattle.layouts.specs.declared.Body.the-variants.{Is}
 use Rattle.frames.specs.declared.Frame.{Frame}
 
 -- a frame of the type ty from a place up to n: it ends above its place and within the payload, and its type is one of section 19
 pub record Lies (s : List ℕ) (at ty n : ℕ) : Type 0 where
   pub above : at < n
   pub within : n ≤ length s
-  pub known : ty ≤ 30
+  pub known : ty ≤ 0x1e
 
 -- the fields of a frame f of the type t up to n, read at a place for the type ty: what stands there by the layout of ty, no fault, and f put together from it
 pub record FieldsRead (s : List ℕ) (at ty : ℕ) (f : Frame) (t n : ℕ) : Type 0 where

@@ -2,6 +2,7 @@
 ghost use mathlib.Core.Path.{_≡_};
 ghost use Rattle.frames.specs.Admission.{exceptEarly, onlyOneRtt, earlyOrOneRtt, admitted};
 use crate::Kind;
+use layouts::types;
 
 fn except_early(kind: Kind) -> bool
     ensures { λ r. ⌜ r ≡ exceptEarly kind ⌝ }
@@ -40,15 +41,15 @@ pub fn admits(kind: Kind, ty: u64) -> bool
     ensures { λ r. ⌜ r ≡ admitted kind ty ⌝ }
 {
     match ty {
-        0 => true,
-        1 => true,
-        2 => except_early(kind),
-        3 => except_early(kind),
-        6 => except_early(kind),
-        7 => false,
-        27 => only_one_rtt(kind),
-        28 => true,
-        30 => false,
+        types::PADDING => true,
+        types::PING => true,
+        types::ACK => except_early(kind),
+        types::ACK_ECN => except_early(kind),
+        types::CRYPTO => except_early(kind),
+        types::NEW_TOKEN => false,
+        types::PATH_RESPONSE => only_one_rtt(kind),
+        types::CONNECTION_CLOSE => true,
+        types::HANDSHAKE_DONE => false,
         _ => early_or_one_rtt(kind),
     }
 }

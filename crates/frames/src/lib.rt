@@ -1,14 +1,14 @@
 // Frames (RFC 9000, 12.4 and 19): one frame read at a place of a payload, in the order of document 01.
 mod admission;
-mod fields;
-mod pieces;
-pub mod rules;
-pub mod table;
+mod whole;
 
 ghost use mathlib.Core.Path.{_≡_};
-ghost use Rattle.frames.specs.Reading.{headAt, frameAt, anyFrameAt};
+ghost use Rattle.frames.specs.Fields.{fieldsAt};
+ghost use Rattle.frames.specs.Reading.{withHead, admittedHead, frameAt, anyFrameAt};
 use answers::Answer;
-use wire::Number;
+use fields::Fields;
+use fields::Head;
+use fields::heads;
 
 // The kinds of packet that carry frames.
 pub enum Kind {
@@ -125,122 +125,59 @@ pub enum Reading {
     Refused { answer: Answer, ty: u64 },
 }
 
-// A frame taken apart, the same for every type: its type, four numbers, places of bytes, and three numbers after
-// them. What a type does not have is 0.
-pub struct Parts {
-    pub ty: u64,
-    pub a: u64,
-    pub b: u64,
-    pub c: u64,
-    pub d: u64,
-    pub at: usize,
-    pub len: usize,
-    pub token: usize,
-    pub x: u64,
-    pub y: u64,
-    pub z: u64,
-}
-
-// What stands between a frame's first numbers and its end.
-pub enum Tail {
-    Nothing,
-    // Length (i), and so many bytes
-    Counted,
-    // bytes to the end of the payload
-    Remainder,
-    // Data (64)
-    Eight,
-    // Length (8), Connection ID (8..160), Stateless Reset Token (128)
-    Identity,
-    // ACK Range (..) ...
-    Ranges,
-}
-
-// The layout of a type: how many numbers follow it, what stands behind them, and how many numbers behind that.
-pub struct Layout {
-    pub numbers: u8,
-    pub tail: Tail,
-    pub after: u8,
-}
-
-// Four numbers, those that are not there 0, and the place after them.
-pub enum Numbers {
-    Are {
-        a: u64,
-        b: u64,
-        c: u64,
-        d: u64,
-        next: usize,
-    },
-    CutShort,
-}
-
-// The places of a tail's bytes, those that it does not have 0, and the place after it.
-pub enum Body {
-    Is {
-        at: usize,
-        len: usize,
-        token: usize,
-        next: usize,
-    },
-    Wrong,
-}
-
-// A frame's type and the place after it, or why there is none.
-pub enum Head {
-    Type { ty: u64, next: usize },
-    Refused { answer: Answer, ty: u64 },
-}
-
-// A type that can be read, is in its shortest form and known.
-fn begin(s: &[u8], at: usize) -> Head
-    ensures { λ r. ⌜ r ≡ headAt (now (s .entry)) at ⌝ }
+// The frame at a place, of a known type.
+fn read_fields(s: &[u8], at: usize, ty: u64) -> Reading
+    ensures { λ r. ⌜ r ≡ fieldsAt (now (s .entry)) at ty ⌝ }
 {
-    let Number::Is { value: ty, next } = wire::read(s, at) else {
-        return Head::Refused {
+    let Fields::Are { parts, next } = fields::read(s, at, ty) else {
+        return Reading::Refused {
             answer: Answer::FrameEncoding,
-            ty: 0,
+            ty,
         };
     };
-    if next - at != wire::size(ty) {
-        return Head::Refused {
-            answer: Answer::ProtocolViolation,
-            ty,
-        };
+    Reading::Got {
+        frame: whole::put_together(parts),
+        ty,
+        next,
     }
-    if 30 < ty {
-        return Head::Refused {
-            answer: Answer::FrameEncoding,
-            ty,
-        };
+}
+
+// A type that a packet of this kind may carry to a server; what was refused stays so.
+fn admit(kind: Kind, head: Head) -> Head
+    ensures { λ r. ⌜ r ≡ admittedHead kind head ⌝ }
+{
+    let Head::Type { ty, next: _ } = head else {
+        return head;
+    };
+    if admission::admits(kind, ty) {
+        return head;
     }
-    Head::Type { ty, next }
+    Head::Refused {
+        answer: Answer::ProtocolViolation,
+        ty,
+    }
+}
+
+// The frame behind a type.
+fn read_after(s: &[u8], head: Head) -> Reading
+    ensures { λ r. ⌜ r ≡ withHead head (λ ty next. fieldsAt (now (s .entry)) next ty) ⌝ }
+{
+    match head {
+        Head::Refused { answer, ty } => Reading::Refused { answer, ty },
+        Head::Type { ty, next } => read_fields(s, next, ty),
+    }
 }
 
 // Reads the frame at a place of a payload of a packet of this kind, at a server.
 pub fn read(s: &[u8], at: usize, kind: Kind) -> Reading
     ensures { λ r. ⌜ r ≡ frameAt (now (s .entry)) at kind ⌝ }
 {
-    match begin(s, at) {
-        Head::Refused { answer, ty } => Reading::Refused { answer, ty },
-        Head::Type { ty, next } => {
-            if !admission::admits(kind, ty) {
-                return Reading::Refused {
-                    answer: Answer::ProtocolViolation,
-                    ty,
-                };
-            }
-            fields::read(s, next, ty)
-        },
-    }
+    read_after(s, admit(kind, heads::read(s, at)))
 }
 
 // Reads the frame at a place, whatever packet it stands in: what a writer's frames are read back by.
 pub fn read_any(s: &[u8], at: usize) -> Reading
     ensures { λ r. ⌜ r ≡ anyFrameAt (now (s .entry)) at ⌝ }
 {
-    match begin(s, at) {
-        Head::Refused { answer, ty } => Reading::Refused { answer, ty },
-        Head::Type { ty, next } => fields::read(s, next, ty),
-    }
+    read_after(s, heads::read(s, at))
 }

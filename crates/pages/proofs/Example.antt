@@ -15,12 +15,14 @@ use Rattle.pages.specs.Pages.{smallOf, withRow, oneMoreOf, pageFrom, pag
 use Rattle.pages.specs.declared.Page.{Page}
 use Rattle.wire.specs.Writing.{writes}
 use Rattle.wire.specs.Number.{numberAt, fieldAt, valuesIn, bigEndian, shortest, sizeOf, formOf}
-use Rattle.frames.specs.Layout.{layouts, layoutOf, known}
+use Rattle.layouts.specs.Layout.{layouts, layoutOf, known}
 use Rattle.frames.specs.Admission.{admitted}
-use Rattle.frames.specs.Body.{numbersAt, optionalAt, sizedAt, countedAt, rangedAt}
-use Rattle.frames.specs.Faults.{faultOf, aboveOf}
-use Rattle.frames.specs.Fields.{frameOf, endedAt, fieldsAt}
-use Rattle.frames.specs.Reading.{headAt, frameAt}
+use Rattle.layouts.specs.Body.{numbersAt, optionalAt, sizedAt, countedAt, rangedAt}
+use Rattle.fields.specs.Faults.{faultOf, aboveOf}
+use Rattle.fields.specs.Parts.{endedAt, partsAt}
+use Rattle.frames.specs.Fields.{frameOf, fieldsAt}
+use Rattle.fields.specs.Heads.{headAt}
+use Rattle.frames.specs.Reading.{frameAt}
 use Rattle.streams.specs.Entry.{listed, placeOf, finalOf, reached}
 use Rattle.streams.specs.Conn.{upTo, openTo, markedAs}
 use Rattle.streams.specs.Opening.{openedConn, openingOf}
@@ -46,7 +48,7 @@ written s (p ∷ l) = let r = pageOf p s (replicate 100 0) in take (r .0 .used) 
 -- "0 1 0 0", "1 10 0 5", "9 4 3 5", "closed 3"
 pub example : written (1 ∷ 10 ∷ 0 ∷ 5 ∷ 104 ∷ 101 ∷ 108 ∷ 108 ∷ 111 ∷ 4 ∷ 4 ∷ 0 ∷ 20 ∷ []) (first (smallOf .opened))
     ≡ 48 ∷ 32 ∷ 49 ∷ 32 ∷ 48 ∷ 32 ∷ 48 ∷ 10 ∷ 49 ∷ 32 ∷ 49 ∷ 48 ∷ 32 ∷ 48 ∷ 32 ∷ 53 ∷ 10 ∷ 57 ∷ 32 ∷ 52 ∷ 32 ∷ 51 ∷ 32 ∷ 53 ∷ 10 ∷ 99 ∷ 108 ∷ 111 ∷ 115 ∷ 101 ∷ 100 ∷ 32 ∷ 51 ∷ 10 ∷ []
-unfolding numberAt fieldAt valuesIn bigEndian shortest sizeOf formOf layouts layoutOf known admitted numbersAt optionalAt sizedAt countedAt rangedAt faultOf aboveOf frameOf endedAt fieldsAt headAt frameAt listed placeOf finalOf reached upTo openTo markedAs openedConn openingOf rule1 rule2 rule3 rule4 rule5 endsOf endOf ruledOf connAfter entryAfter settledOf judgedOf isFresh entryFitsAs limitsFit countsFit connFits sumTo allTo fits askedOf askedAt turnOf gateOf openingWhen filledTo openedTable turnAt tookFrameOf frameTable handedOf handedAt writes digitsOf decimalOf fieldOf typeOf rowOf typeShown takenRowOf nextIn afterOf closedText endingOf smallOf withRow oneMoreOf pageFrom pageOf lastOf
+unfolding numberAt fieldAt valuesIn bigEndian shortest sizeOf formOf layouts layoutOf known admitted numbersAt optionalAt sizedAt countedAt rangedAt faultOf aboveOf frameOf endedAt partsAt fieldsAt headAt frameAt listed placeOf finalOf reached upTo openTo markedAs openedConn openingOf rule1 rule2 rule3 rule4 rule5 endsOf endOf ruledOf connAfter entryAfter settledOf judgedOf isFresh entryFitsAs limitsFit countsFit connFits sumTo allTo fits askedOf askedAt turnOf gateOf openingWhen filledTo openedTable turnAt tookFrameOf frameTable handedOf handedAt writes digitsOf decimalOf fieldOf typeOf rowOf typeShown takenRowOf nextIn afterOf closedText endingOf smallOf withRow oneMoreOf pageFrom pageOf lastOf
 example = refl
 
 -- an empty payload: "closed 10"

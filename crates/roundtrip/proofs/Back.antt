@@ -13,16 +13,18 @@ use Rattle.wire.proofs.Standing.{left, right}
 use Rattle.wire.proofs.Back as number
 use Rattle.wire.proofs.Exit.{length-bytes}
 use Rattle.row.specs.Row.{inRange}
-use Rattle.frames.specs.Layout.{layoutOf}
-use Rattle.frames.specs.Body.{numbersAt}
-use Rattle.frames.specs.Fields.{frameOf, endedAt, fieldsAt}
-use Rattle.frames.specs.Reading.{headAt, anyFrameAt}
-use Rattle.frames.specs.declared.Layout.{Layout}
-use Rattle.frames.specs.declared.Parts.{Parts}
+use Rattle.layouts.specs.Layout.{layoutOf}
+use Rattle.layouts.specs.Body.{numbersAt}
+use Rattle.fields.specs.Parts.{endedAt, partsAt}
+use Rattle.frames.specs.Fields.{frameOf, fieldsAt}
+use Rattle.fields.specs.Heads.{headAt}
+use Rattle.frames.specs.Reading.{anyFrameAt}
+use Rattle.layouts.specs.declared.Layout.{Layout}
+use Rattle.fields.specs.declared.Parts.{Parts}
 use Rattle.frames.specs.declared.Frame.{Frame}
-use Rattle.frames.specs.declared.Numbers.the-variants.{Are}
-use Rattle.frames.specs.declared.Body.the-variants as Body'
-use Rattle.frames.specs.declared.Head.the-variants as Head'
+use Rattle.layouts.specs.declared.Numbers.the-variants.{Are}
+use Rattle.layouts.specs.declared.Body.the-variants as Body'
+use Rattle.fields.specs.declared.Head.the-variants as Head'
 use Rattle.frames.specs.declared.Reading.the-variants.{Got}
 use Rattle.contents.specs.Parts.{partsOf}
 use Rattle.contents.specs.Content.{bodyOf, tokenOf, wholeOf, contentOf, contents}
@@ -108,7 +110,7 @@ module _ (s out : List ℕ) (f : Frame) (at : ℕ) (t : takes (contents s f) ≡
   ends = omega (arith, spelled-length (contents s f))
 
   fields : fieldsAt out (at + sizeOf (p .ty)) (p .ty) ≡ Got g (p .ty) (r + length A)
-  unfolding fieldsAt endedAt
+  unfolding fieldsAt endedAt partsAt
   fields =
       rw (numbers, body .2 .found ∙ (λ i. Body'.Is (atIn (l .tail) (body .0)) (keeps i .len) (tokenIn (l .tail) (body .1)) r), after, taken (contents s f) t .right)
 

@@ -20,12 +20,12 @@ use Rattle.row.specs.Row.{bytesAll}
 use Rattle.row.proofs.Back.{length-all}
 use Rattle.ranges.specs.Listed.{listed, fits}
 use Rattle.ranges.proofs.Listed as ranges
-use Rattle.frames.specs.Body.{bodyAt, countedAt, rangedAt}
-use Rattle.frames.specs.declared.Tail.{Tail}
-use Rattle.frames.specs.declared.Tail.the-variants.{Nothing, Counted, Remainder, Eight, Identity, Ranges}
-use Rattle.frames.specs.declared.Body.the-variants as Body'
-use Rattle.frames.specs.declared.Parts.{Parts}
-use Rattle.frames.proofs.Places.{sized-is, identity-is}
+use Rattle.layouts.specs.Body.{bodyAt, countedAt, rangedAt}
+use Rattle.layouts.specs.declared.Tail.{Tail}
+use Rattle.layouts.specs.declared.Tail.the-variants.{Nothing, Counted, Remainder, Eight, Identity, Ranges}
+use Rattle.layouts.specs.declared.Body.the-variants as Body'
+use Rattle.fields.specs.declared.Parts.{Parts}
+use Rattle.layouts.proofs.Places.{sized-is, identity-is}
 use Rattle.contents.specs.Content.{bodyOf, tokenOf, wholeOf}
 use Rattle.contents.specs.Taken.{fitting}
 use Rattle.writing.specs.Spelled.{bodyBytes}

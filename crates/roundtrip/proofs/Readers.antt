@@ -18,17 +18,17 @@ use Rattle.row.specs.Row.{inRange}
 use Rattle.ranges.specs.Ranges.{rangesAt}
 use Rattle.ranges.specs.Listed.{listed, fits}
 use Rattle.ranges.proofs.Listed.{read-fits}
-use Rattle.frames.specs.Layout.{layouts, layoutOf, known}
-use Rattle.frames.specs.Faults.{aboveOf, faultOf}
-use Rattle.frames.specs.Body.{optionalAt, numbersAt, bodyAt, sizedAt, countedAt, remainderAt, identityAt, rangedAt}
+use Rattle.layouts.specs.Layout.{layouts, layoutOf, known}
+use Rattle.fields.specs.Faults.{aboveOf, faultOf}
+use Rattle.layouts.specs.Body.{optionalAt, numbersAt, bodyAt, sizedAt, countedAt, remainderAt, identityAt, rangedAt}
 use Rattle.frames.specs.Fields.{frameOf}
-use Rattle.frames.specs.declared.Numbers.{Numbers}
-use Rattle.frames.specs.declared.Numbers.the-variants.{Are, CutShort}
-use Rattle.frames.specs.declared.Tail.{Tail}
-use Rattle.frames.specs.declared.Tail.the-variants.{Nothing, Counted, Remainder, Eight, Identity, Ranges}
-use Rattle.frames.specs.declared.Body.{Body}
-use Rattle.frames.specs.declared.Body.the-variants as Body'
-use Rattle.frames.specs.declared.Parts.{Parts}
+use Rattle.layouts.specs.declared.Numbers.{Numbers}
+use Rattle.layouts.specs.declared.Numbers.the-variants.{Are, CutShort}
+use Rattle.layouts.specs.declared.Tail.{Tail}
+use Rattle.layouts.specs.declared.Tail.the-variants.{Nothing, Counted, Remainder, Eight, Identity, Ranges}
+use Rattle.layouts.specs.declared.Body.{Body}
+use Rattle.layouts.specs.declared.Body.the-variants as Body'
+use Rattle.fields.specs.declared.Parts.{Parts}
 use Rattle.frames.specs.declared.Frame.{Frame}
 use Rattle.frames.specs.declared.Frame.the-variants.{Stream}
 use Rattle.frames.specs.declared.Reading.the-variants.{Got}

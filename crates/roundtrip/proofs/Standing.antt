@@ -16,8 +16,8 @@ use Rattle.wire.proofs.Standing.{left, right}
 use Rattle.wire.proofs.Back.{back}
 use Rattle.wire.proofs.Exit.{length-bytes}
 use Rattle.row.specs.Row.{inRange, bytesAll}
-use Rattle.frames.specs.Body.{optionalAt, numbersAt}
-use Rattle.frames.specs.declared.Numbers.the-variants.{Are}
+use Rattle.layouts.specs.Body.{optionalAt, numbersAt}
+use Rattle.layouts.specs.declared.Numbers.the-variants.{Are}
 use Rattle.writing.specs.Spelled.{fourBytes}
 use Rattle.contents.specs.Again.{first}
 use Rattle.contents.proofs.Ones.{four-in-range}

@@ -11,8 +11,8 @@ use lib.ListN.{length, length-append}
 use lib.Seq.{slice, length-slice}
 use Rattle.wire.specs.Number.{bytesOf, sizeOf}
 use Rattle.wire.proofs.Exit.{length-bytes}
-use Rattle.frames.specs.declared.Parts.{Parts}
-use Rattle.frames.specs.declared.Tail.{Tail}
+use Rattle.fields.specs.declared.Parts.{Parts}
+use Rattle.layouts.specs.declared.Tail.{Tail}
 use Rattle.contents.specs.Content.{tokenInside, wholeOf}
 
 -- places that lie inside

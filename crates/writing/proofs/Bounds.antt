@@ -10,12 +10,12 @@ use lib.Dec.{eqb, leb}
 use lib.ListN.{length, List·getD-eq-default}
 use Rattle.answers.proofs.Choice.{below-or-not}
 use Rattle.answers.proofs.Distinct.{impossible}
-use Rattle.frames.specs.Layout.{layout, layouts, layoutOf, known}
-use Rattle.frames.specs.Faults.{faultOf, misissuedOf}
-use Rattle.frames.specs.declared.Parts.{Parts}
+use Rattle.layouts.specs.Layout.{layout, layouts, layoutOf, known}
+use Rattle.fields.specs.Faults.{faultOf, misissuedOf}
+use Rattle.fields.specs.declared.Parts.{Parts}
 use Rattle.frames.specs.declared.Frame.{Frame}
-use Rattle.frames.specs.declared.Tail.{Tail}
-use Rattle.frames.specs.declared.Tail.the-variants.{Nothing, Counted, Remainder, Eight, Identity, Ranges}
+use Rattle.layouts.specs.declared.Tail.{Tail}
+use Rattle.layouts.specs.declared.Tail.the-variants.{Nothing, Counted, Remainder, Eight, Identity, Ranges}
 use Rattle.contents.specs.Parts.{partsOf}
 use Rattle.contents.specs.Content.{contentOf}
 use Rattle.contents.specs.Taken.{takes}

@@ -18,7 +18,7 @@ use Rattle.wire.proofs.Exit.{length-bytes}
 use Rattle.wire.proofs.Exit as number
 use Rattle.row.specs.Row.{inRange, sizeAll, rowDraft}
 use Rattle.row.proofs.Back as row
-use Rattle.frames.specs.Layout.{layoutOf}
+use Rattle.layouts.specs.Layout.{layoutOf}
 use Rattle.contents.specs.Content.{Content}
 use Rattle.contents.specs.Taken.{takes}
 use Rattle.contents.proofs.Taking as taking

@@ -11,10 +11,10 @@ use Rattle.wire.specs.Writing.{Draft, Bytes, Never}
 use Rattle.wire.specs.declared.Wrote.{Wrote}
 use Rattle.wire.specs.declared.Wrote.the-variants.{To, Refused}
 use Rattle.row.specs.Row.{bytesAll}
-use Rattle.frames.specs.Layout.{layoutOf}
-use Rattle.frames.specs.declared.Parts.{Parts}
-use Rattle.frames.specs.declared.Tail.{Tail}
-use Rattle.frames.specs.declared.Tail.the-variants.{Nothing, Counted, Remainder, Eight, Identity, Ranges}
+use Rattle.layouts.specs.Layout.{layoutOf}
+use Rattle.fields.specs.declared.Parts.{Parts}
+use Rattle.layouts.specs.declared.Tail.{Tail}
+use Rattle.layouts.specs.declared.Tail.the-variants.{Nothing, Counted, Remainder, Eight, Identity, Ranges}
 use Rattle.contents.specs.Content.{Content, wholeOf}
 use Rattle.contents.specs.Taken.{takes}
 

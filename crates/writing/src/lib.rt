@@ -11,8 +11,8 @@ ghost use Rattle.contents.specs.Taken.{takes};
 ghost use Rattle.writing.specs.Spelled.{placeAfter, spelledFrame, frameDraft};
 ghost use Rattle.wire.specs.Writing.{writes};
 use answers::Answer;
+use fields::Parts;
 use frames::Frame;
-use frames::Parts;
 use wire::Wrote;
 
 // The place after what was written, 0 after a refusal.
@@ -30,7 +30,7 @@ fn size(p: Parts, s: &[u8]) -> usize
     requires { ⌜ takes (contentOf (now s) p) ≡ true ⌝ }
     ensures { λ r. ⌜ r ≡ length (spelledFrame (contentOf (now (s .entry)) p)) ⌝ }
 {
-    let l = frames::table::find(p.ty);
+    let l = layouts::table::find(p.ty);
     let tail = l.tail;
     let numbers = [p.a, p.b, p.c, p.d];
     let after = [p.x, p.y, p.z, 0];
@@ -45,7 +45,7 @@ fn put(p: Parts, s: &[u8], out: &mut [u8], at: usize) -> usize
     requires { ⌜ (p .ty < 2 ^ 62) × (takes (contentOf (now s) p) ≡ true) × (at + length (spelledFrame (contentOf (now s) p)) ≤ length (now out)) ⌝ }
     ensures { λ r. ⌜ (r ≡ at + length (spelledFrame (contentOf (now (s .entry)) p))) × (now (out .exit) ≡ sets (now (out .entry)) at (spelledFrame (contentOf (now (s .entry)) p))) ⌝ }
 {
-    let l = frames::table::find(p.ty);
+    let l = layouts::table::find(p.ty);
     let tail = l.tail;
     let numbers = [p.a, p.b, p.c, p.d];
     let after = [p.x, p.y, p.z, 0];

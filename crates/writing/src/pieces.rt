@@ -9,8 +9,8 @@ ghost use Rattle.row.specs.Row.{sizeAll, bytesAll};
 ghost use Rattle.ranges.specs.Listed.{listed};
 ghost use Rattle.contents.specs.Content.{bodyOf, tokenOf};
 ghost use Rattle.writing.specs.Spelled.{bodyBytes, Bounded};
-use frames::Parts;
-use frames::Tail;
+use fields::Parts;
+use layouts::Tail;
 use wire::Number;
 use wire::Wrote;
 

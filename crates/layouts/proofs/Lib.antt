@@ -1,0 +1,4 @@
+pub mod Going
+pub mod Places
+pub mod Sound
+pub mod Unique
