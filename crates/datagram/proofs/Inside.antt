@@ -13,16 +13,17 @@ use Rattle.answers.proofs.Choice.{holds, below-or-not}
 use Rattle.answers.proofs.Distinct.{impossible}
 use Rattle.wire.specs.Number.{numberAt}
 use Rattle.wire.proofs.Sound.{sound}
+use Rattle.invariants.specs.Invariant.{partOf, after, bytesAfter, invariantOf}
 use Rattle.datagram.specs.declared.Kind.{Kind}
 use Rattle.datagram.specs.declared.Kind.the-variants.{Initial, ZeroRtt, Handshake, Retry, OneRtt, VersionNegotiation, OtherVersion}
-use Rattle.datagram.specs.declared.Part.{Part}
+use Rattle.invariants.specs.declared.Part.{Part}
 use Rattle.datagram.specs.declared.Header.{Header}
 use Rattle.datagram.specs.declared.Next.the-variants.{Packet, Stop}
-use Rattle.datagram.specs.Header.{bit, firstOf, typeOf, partOf, after, headerOf, wholeOf}
+use Rattle.datagram.specs.Header.{bit, firstOf, typeOf, headerOf, wholeOf}
 use Rattle.datagram.specs.Inside.{numbered, Inside, Fine}
 use Rattle.datagram.specs.Inside.Fine.{packet, none}
-use Rattle.datagram.specs.Split.{bytesAfter, invariantOf, negotiationOf, retryOf, numberedOf, initialOf, versionOneOf, longOf, shortOf, nextOf}
-use Rattle.datagram.proofs.Cases.{Ordered, counted, ordered, with-bytes, with-invariant}
+use Rattle.datagram.specs.Split.{negotiationOf, retryOf, numberedOf, initialOf, versionOneOf, longOf, shortOf, nextOf}
+use Rattle.invariants.proofs.Cases.{Ordered, counted, ordered, with-bytes, with-invariant}
 
 never : {A : Type 0} → _≡_ {A = Bool} false true → A
 never e = absurd (false≢true e)

@@ -1,4 +1,3 @@
-pub mod Cases
 pub mod Inside
 pub mod Unseen
 pub mod Unique

@@ -13,17 +13,18 @@ use Rattle.wire.specs.Number.{bigEndian, fieldAt, plainAt, numberAt, withNumber
 use Rattle.wire.specs.declared.Number.{Number}
 use Rattle.wire.specs.declared.Number.the-variants as Number'
 use Rattle.wire.proofs.Sound.{found, sound}
-use Rattle.datagram.specs.declared.Part.{Part}
-use Rattle.datagram.specs.declared.Bytes.{Bytes}
-use Rattle.datagram.specs.declared.Bytes.the-variants as Bytes'
-use Rattle.datagram.specs.declared.Invariant.{Invariant}
-use Rattle.datagram.specs.declared.Invariant.the-variants as Invariant'
+use Rattle.invariants.specs.declared.Part.{Part}
+use Rattle.invariants.specs.declared.Bytes.{Bytes}
+use Rattle.invariants.specs.declared.Bytes.the-variants as Bytes'
+use Rattle.invariants.specs.declared.Invariant.{Invariant}
+use Rattle.invariants.specs.declared.Invariant.the-variants as Invariant'
+use Rattle.invariants.specs.Invariant.{partOf, after, bytesAfter, withBytes, invariantOf, withInvariant}
 use Rattle.datagram.specs.declared.Kind.{Kind}
 use Rattle.datagram.specs.declared.Kind.the-variants.{Initial, ZeroRtt, Handshake}
-use Rattle.datagram.specs.Header.{bit, firstOf, partOf, after}
-use Rattle.datagram.specs.Split.{bytesAfter, withBytes, invariantOf, withInvariant, negotiationOf, retryOf, numberedOf, initialOf, versionOneOf, longOf, shortOf, nextOf}
+use Rattle.datagram.specs.Header.{bit, firstOf}
+use Rattle.datagram.specs.Split.{negotiationOf, retryOf, numberedOf, initialOf, versionOneOf, longOf, shortOf, nextOf}
 use Rattle.datagram.specs.Unseen.{Alike}
-use Rattle.datagram.proofs.Cases.{counted, ordered, byte-first}
+use Rattle.invariants.proofs.Cases.{counted, ordered, byte-first}
 
 -- a test has the same two sides where each side is the same under it
 choose {ℓ} : {A : Type ℓ} (b : Bool) {x x′ y y′ : A} → (b ≡ true → x ≡ x′) → (b ≡ false → y ≡ y′) → (b ⇒ x ∣ y) ≡ (b ⇒ x′ ∣ y′)

@@ -1,11 +1,12 @@
 -- The parts of a header and the bits of its first byte.
-use Prim.Native.Nat.{ℕ, _+_, _/_, _%_, _^_}
+use Prim.Native.Nat.{ℕ, _/_, _%_, _^_}
 use mathlib.Core.Bool.{Bool}
 use mathlib.Core.List.{List}
 use lib.ListN.{length, getD}
 use lib.Dec.{eqb}
+use Rattle.invariants.specs.Invariant.{partOf, after}
+use Rattle.invariants.specs.declared.Part.{Part}
 use Rattle.datagram.specs.declared.Kind.{Kind}
-use Rattle.datagram.specs.declared.Part.{Part}
 use Rattle.datagram.specs.declared.Header.{Header}
 
 -- whether the bit 2^k of a byte is set
@@ -18,13 +19,6 @@ firstOf s = getD s 0 0
 -- the type of a long header of version 1: bits 0x30 of its first byte
 abbrev pub typeOf : List ℕ → ℕ
 typeOf s = firstOf s / 16 % 4
-
-abbrev pub partOf : ℕ → ℕ → Part
-partOf at len = record { at = at; len = len }
-
--- the place after a part
-abbrev pub after : Part → ℕ
-after p = p .at + p .len
 
 abbrev pub headerOf : Kind → ℕ → Part → Part → Part → ℕ → ℕ → Header
 headerOf kind version destination source token number end =

@@ -5,12 +5,12 @@ use Prim.Native.Nat.{ℕ, _+_, _≤_, _<_}
 use mathlib.Core.List.{List}
 use lib.ListN.{length}
 use Rattle.answers.specs.declared.Answer.the-variants.{NoPacket}
+use Rattle.invariants.specs.Invariant.{after}
 use Rattle.datagram.specs.declared.Kind.{Kind}
 use Rattle.datagram.specs.declared.Kind.the-variants.{Initial, ZeroRtt, Handshake, Retry, OneRtt, VersionNegotiation, OtherVersion}
 use Rattle.datagram.specs.declared.Header.{Header}
 use Rattle.datagram.specs.declared.Next.{Next}
 use Rattle.datagram.specs.declared.Next.the-variants.{Packet, Stop}
-use Rattle.datagram.specs.Header.{after}
 
 -- the kinds that have a packet number
 abbrev pub numbered : Kind → Bool

@@ -6,45 +6,18 @@ use lib.ListN.{length}
 use lib.Dec.{ltb, eqb}
 use Rattle.answers.specs.Choice.{_⇒_∣_}
 use Rattle.answers.specs.declared.Answer.the-variants.{Done, NoPacket}
-use Rattle.wire.specs.Number.{plainAt, numberAt, withNumber}
-use Rattle.wire.specs.declared.Number.{Number}
-use Rattle.datagram.specs.declared.Part.{Part}
-use Rattle.datagram.specs.declared.Bytes.{Bytes}
-use Rattle.datagram.specs.declared.Bytes.the-variants as Bytes'
-use Rattle.datagram.specs.declared.Invariant.{Invariant}
-use Rattle.datagram.specs.declared.Invariant.the-variants as Invariant'
+use Rattle.wire.specs.Number.{numberAt}
+use Rattle.invariants.specs.Invariant.{partOf, after, bytesAfter, withBytes, invariantOf, withInvariant}
+use Rattle.invariants.specs.declared.Part.{Part}
 use Rattle.datagram.specs.declared.Kind.{Kind}
 use Rattle.datagram.specs.declared.Kind.the-variants.{Initial, ZeroRtt, Handshake, Retry, OneRtt, VersionNegotiation, OtherVersion}
 use Rattle.datagram.specs.declared.Next.{Next}
 use Rattle.datagram.specs.declared.Next.the-variants.{Packet, Stop}
-use Rattle.datagram.specs.Header.{bit, firstOf, typeOf, partOf, after, headerOf, wholeOf}
+use Rattle.datagram.specs.Header.{bit, firstOf, typeOf, headerOf, wholeOf}
 
 -- everything else is 110
 abbrev pub none : Next
 none = Stop NoPacket
-
--- as many bytes as a number says, from the place after it, if so many are there
-unfoldable pub bytesAfter : List ℕ → Number → Bytes
-bytesAfter s count =
-    withNumber count Bytes'.CutShort (λ len at.
-    ltb (length s) (at + len) ⇒ Bytes'.CutShort
-    ∣ Bytes'.Are (partOf at len))
-
-abbrev pub withBytes : {X : Type 0} → Bytes → X → (Part → X) → X
-withBytes (Bytes'.Are part) x k = k part
-withBytes Bytes'.CutShort x k = x
-
--- four version bytes, then destination and source connection IDs, each after a length byte (RFC 8999, 5.1)
-unfoldable pub invariantOf : List ℕ → Invariant
-invariantOf s =
-    withNumber (plainAt s 1 4) Invariant'.CutShort (λ version at.
-    withBytes (bytesAfter s (plainAt s at 1)) Invariant'.CutShort (λ destination.
-    withBytes (bytesAfter s (plainAt s (after destination) 1)) Invariant'.CutShort (λ source.
-    Invariant'.Is version destination source)))
-
-abbrev pub withInvariant : {X : Type 0} → Invariant → X → (ℕ → Part → Part → X) → X
-withInvariant (Invariant'.Is version destination source) x k = k version destination source
-withInvariant Invariant'.CutShort x k = x
 
 -- version 0, Version Negotiation: the remainder is one or more whole 4-byte versions
 unfoldable pub negotiationOf : List ℕ → Part → Part → Next

@@ -2,11 +2,12 @@
 ghost use mathlib.Core.Path.{_≡_};
 ghost use Prim.Native.Nat.{_+_, _≤_, _<_};
 ghost use lib.ListN.{length, getD};
-ghost use Rattle.wire.specs.Number.{bigEndian, plainAt};
 ghost use Rattle.datagram.specs.Header.{wholeOf};
-ghost use Rattle.datagram.specs.Split.{bytesAfter, invariantOf, negotiationOf, retryOf, numberedOf, initialOf, versionOneOf, longOf, nextOf};
+ghost use Rattle.datagram.specs.Split.{none, negotiationOf, retryOf, numberedOf, initialOf, versionOneOf, longOf, nextOf};
 use answers::Answer;
-use wire::Number;
+use invariants::Bytes;
+use invariants::Invariant;
+use invariants::Part;
 
 // The seven kinds of packet that can be told apart before protection is removed.
 pub enum Kind {
@@ -17,12 +18,6 @@ pub enum Kind {
     OneRtt,
     VersionNegotiation,
     OtherVersion,
-}
-
-// A part of the rest: its place and its length. One that is not there is empty, at the place where it would stand.
-pub struct Part {
-    pub at: usize,
-    pub len: usize,
 }
 
 // A packet's header. Places count from the start of the rest that was handed in; `number` is the place of the
@@ -43,92 +38,12 @@ pub enum Next {
     Stop { answer: Answer },
 }
 
-// As many bytes as a number before them says, or an end of the rest before theirs.
-enum Bytes {
-    Are { part: Part },
-    CutShort,
-}
-
-// What every version has after a long header's first byte: the version and both IDs.
-enum Invariant {
-    Is {
-        version: u64,
-        destination: Part,
-        source: Part,
-    },
-    CutShort,
-}
-
-// As many bytes as a number says, from the place after it.
-fn bytes_after(rest: &[u8], count: Number) -> Bytes
-    ensures { λ r. ⌜ r ≡ bytesAfter (now (rest .entry)) count ⌝ }
+// Everything else is 110.
+fn no_packet() -> Next
+    ensures { λ r. ⌜ r ≡ none ⌝ }
 {
-    let Number::Is { value, next: at } = count else {
-        return Bytes::CutShort;
-    };
-    if rest.len() < at {
-        return Bytes::CutShort;
-    }
-    if ((rest.len() - at) as u64) < value {
-        return Bytes::CutShort;
-    }
-    Bytes::Are {
-        part: Part {
-            at,
-            len: value as usize,
-        },
-    }
-}
-
-fn wide(x: u8) -> u64
-    ensures { λ r. ⌜ (r ≡ x) × (r < 256) ⌝ }
-{
-    x as u64
-}
-
-// The four bytes after the first.
-fn version_of(rest: &[u8]) -> u64
-    requires { ⌜ 5 ≤ length (now rest) ⌝ }
-    ensures { λ r. ⌜ r ≡ bigEndian (now (rest .entry)) 1 4 ⌝ }
-{
-    wide(rest[1]) * 16777216 + wide(rest[2]) * 65536 + wide(rest[3]) * 256 + wide(rest[4])
-}
-
-// A connection ID after its length, which is a plain byte.
-fn id_at(rest: &[u8], at: usize) -> Bytes
-    ensures { λ r. ⌜ r ≡ bytesAfter (now (rest .entry)) (plainAt (now (rest .entry)) at 1) ⌝ }
-{
-    if rest.len() <= at {
-        return Bytes::CutShort;
-    }
-    let value = wide(rest[at]);
-    bytes_after(
-        rest,
-        Number::Is {
-            value,
-            next: at + 1,
-        },
-    )
-}
-
-// The version and both IDs of a long header.
-fn read_invariant(rest: &[u8]) -> Invariant
-    ensures { λ r. ⌜ r ≡ invariantOf (now (rest .entry)) ⌝ }
-{
-    if rest.len() < 5 {
-        return Invariant::CutShort;
-    }
-    let Bytes::Are { part: destination } = id_at(rest, 5) else {
-        return Invariant::CutShort;
-    };
-    let source_at = destination.at + destination.len;
-    let Bytes::Are { part: source } = id_at(rest, source_at) else {
-        return Invariant::CutShort;
-    };
-    Invariant::Is {
-        version: version_of(rest),
-        destination,
-        source,
+    Next::Stop {
+        answer: Answer::NoPacket,
     }
 }
 
@@ -158,14 +73,10 @@ fn negotiation(rest: &[u8], destination: Part, source: Part) -> Next
 {
     let left = rest.len() - (source.at + source.len);
     if left == 0 {
-        return Next::Stop {
-            answer: Answer::NoPacket,
-        };
+        return no_packet();
     }
     if left % 4 != 0 {
-        return Next::Stop {
-            answer: Answer::NoPacket,
-        };
+        return no_packet();
     }
     whole(rest, Kind::VersionNegotiation, 0, destination, source)
 }
@@ -175,9 +86,7 @@ fn retry(rest: &[u8], destination: Part, source: Part) -> Next
     ensures { λ r. ⌜ r ≡ retryOf (now (rest .entry)) destination source ⌝ }
 {
     if rest.len() - (source.at + source.len) < 16 {
-        return Next::Stop {
-            answer: Answer::NoPacket,
-        };
+        return no_packet();
     }
     whole(rest, Kind::Retry, 1, destination, source)
 }
@@ -188,15 +97,12 @@ fn numbered(rest: &[u8], kind: Kind, destination: Part, source: Part, token: Par
     ensures { λ r. ⌜ r ≡ numberedOf (now (rest .entry)) kind destination source token ⌝ }
 {
     let length_at = token.at + token.len;
-    let Bytes::Are { part: counted } = bytes_after(rest, wire::read(rest, length_at)) else {
-        return Next::Stop {
-            answer: Answer::NoPacket,
-        };
+    let Bytes::Are { part: counted } = invariants::bytes_after(rest, wire::read(rest, length_at))
+    else {
+        return no_packet();
     };
     if counted.len < 20 {
-        return Next::Stop {
-            answer: Answer::NoPacket,
-        };
+        return no_packet();
     }
     let number = counted.at;
     let end = counted.at + counted.len;
@@ -218,10 +124,9 @@ fn initial(rest: &[u8], destination: Part, source: Part) -> Next
     ensures { λ r. ⌜ r ≡ initialOf (now (rest .entry)) destination source ⌝ }
 {
     let length_at = source.at + source.len;
-    let Bytes::Are { part: token } = bytes_after(rest, wire::read(rest, length_at)) else {
-        return Next::Stop {
-            answer: Answer::NoPacket,
-        };
+    let Bytes::Are { part: token } = invariants::bytes_after(rest, wire::read(rest, length_at))
+    else {
+        return no_packet();
     };
     numbered(rest, Kind::Initial, destination, source, token)
 }
@@ -232,19 +137,13 @@ fn version_one(rest: &[u8], first: u8, destination: Part, source: Part) -> Next
     ensures { λ r. ⌜ r ≡ versionOneOf (now (rest .entry)) destination source ⌝ }
 {
     if first / 64 % 2 != 1 {
-        return Next::Stop {
-            answer: Answer::NoPacket,
-        };
+        return no_packet();
     }
     if 20 < destination.len {
-        return Next::Stop {
-            answer: Answer::NoPacket,
-        };
+        return no_packet();
     }
     if 20 < source.len {
-        return Next::Stop {
-            answer: Answer::NoPacket,
-        };
+        return no_packet();
     }
     let form = first / 16 % 4;
     if form == 0 {
@@ -271,11 +170,9 @@ fn long(rest: &[u8], first: u8) -> Next
         version,
         destination,
         source,
-    } = read_invariant(rest)
+    } = invariants::read(rest)
     else {
-        return Next::Stop {
-            answer: Answer::NoPacket,
-        };
+        return no_packet();
     };
     if version == 0 {
         return negotiation(rest, destination, source);
@@ -300,14 +197,10 @@ pub fn split(rest: &[u8]) -> Next
         return long(rest, first);
     }
     if first / 64 % 2 != 1 {
-        return Next::Stop {
-            answer: Answer::NoPacket,
-        };
+        return no_packet();
     }
     if rest.len() < 29 {
-        return Next::Stop {
-            answer: Answer::NoPacket,
-        };
+        return no_packet();
     }
     let destination = Part { at: 1, len: 8 };
     let source = Part { at: 9, len: 0 };

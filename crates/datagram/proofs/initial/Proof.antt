@@ -2,14 +2,14 @@
 -- Assumes nothing.
 use borrow.Author.Needs.{needs}
 use mathlib.Core.Path.{sym, _∙_}
-use Rattle.datagram.proofs.Cases.{counted}
+use Rattle.invariants.proofs.Cases.{counted}
 use Rattle.datagram.specs.Split.{initialOf}
 use Rattle.datagram.proofs.initial.Statement.{statement}
 use Rattle.datagram.proofs.initial.Tie as tie
 
 returns : tie.Need-returns
 unfolding initialOf
-returns c = rw (← c .before .before .before .read .ensures, sym (c .before .before .bytes-after .ensures) ∙ c .enum-told .given .1)
+returns c = let k = c .before in c .no-packet .ensures ∙ rw (← k .before .before .before .read .ensures, sym (k .before .before .bytes-after .ensures) ∙ k .enum-told .given .1)
 
 numbered-requires : tie.Need-numbered-requires
 numbered-requires c κs = counted _ _ (sym (c .before .before .before .bytes-after .ensures) ∙ c .before .token .given .1) .within
@@ -28,6 +28,7 @@ initial-spec =
     (λ c κs. search needs)
     (λ c. search needs)
     (λ c. search needs)
+    (λ c κs. search needs)
     returns
     numbered-requires
     returns-2)

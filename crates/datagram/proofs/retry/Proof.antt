@@ -2,13 +2,14 @@
 -- Assumes nothing.
 use borrow.Author.Needs.{needs}
 use borrow.Author.Tests.{lt-ltb, le-ltb}
+use mathlib.Core.Path.{_∙_}
 use Rattle.datagram.specs.Split.{retryOf}
 use Rattle.datagram.proofs.retry.Statement.{statement}
 use Rattle.datagram.proofs.retry.Tie as tie
 
 returns : tie.Need-returns
 unfolding retryOf
-returns c = simp (lt-ltb _ _ (c .if1 .taken))
+returns c = let k = c .before in c .no-packet .ensures ∙ simp (lt-ltb _ _ (k .if1 .taken))
 
 returns-2 : tie.Need-returns-2
 unfolding retryOf
@@ -20,6 +21,7 @@ retry-spec =
     (tie.spec
     (λ c. search needs)
     (λ c. search needs)
+    (λ c κs. search needs)
     returns
     (λ c κs. search needs)
     returns-2)

@@ -1,6 +1,7 @@
 -- `datagram::split` meets its contract: its tests are those of the definition.
 -- Assumes nothing.
 use borrow.Author.Needs.{needs}
+use mathlib.Core.Path.{_∙_}
 use borrow.Author.Tests.{lt-ltb, le-ltb, eq-eqb, ne-eqb}
 use Rattle.datagram.specs.Split.{shortOf, nextOf}
 use Rattle.datagram.proofs.split.Statement.{statement}
@@ -16,11 +17,11 @@ returns-2 c = rw (ne-eqb _ _ (c .before .before .before .if1 .left), eq-eqb _ _ 
 
 returns-3 : tie.Need-returns-3
 unfolding nextOf shortOf
-returns-3 c = rw (ne-eqb _ _ (c .before .before .before .if1 .left), ne-eqb _ _ (c .before .if2 .left), ne-eqb _ _ (c .if3 .taken))
+returns-3 c = let k = c .before in c .no-packet .ensures ∙ rw (ne-eqb _ _ (k .before .before .before .if1 .left), ne-eqb _ _ (k .before .if2 .left), ne-eqb _ _ (k .if3 .taken))
 
 returns-4 : tie.Need-returns-4
 unfolding nextOf shortOf
-returns-4 c = rw (ne-eqb _ _ (c .before .before .before .before .if1 .left), ne-eqb _ _ (c .before .before .if2 .left), eq-eqb _ _ (c .before .if3 .left), lt-ltb _ _ (c .if4 .taken))
+returns-4 c = let k = c .before in c .no-packet2 .ensures ∙ rw (ne-eqb _ _ (k .before .before .before .before .if1 .left), ne-eqb _ _ (k .before .before .if2 .left), eq-eqb _ _ (k .before .if3 .left), lt-ltb _ _ (k .if4 .taken))
 
 returns-5 : tie.Need-returns-5
 unfolding nextOf shortOf
@@ -34,7 +35,9 @@ split-spec =
     (λ c. search needs)
     (λ c κs. search needs)
     returns-2
+    (λ c κs. search needs)
     returns-3
+    (λ c κs. search needs)
     returns-4
     (λ c κs. search needs)
     returns-5)

@@ -1,6 +1,7 @@
 -- `datagram::version_one` meets its contract: its tests are those of the definition, on the byte that it was handed.
 -- Assumes nothing.
 use borrow.Author.Needs.{needs}
+use mathlib.Core.Path.{_∙_}
 use borrow.Author.Tests.{lt-ltb, le-ltb, eq-eqb, ne-eqb}
 use Rattle.datagram.specs.Split.{versionOneOf}
 use Rattle.datagram.proofs.version_one.Statement.{statement}
@@ -8,15 +9,15 @@ use Rattle.datagram.proofs.version_one.Tie as tie
 
 returns : tie.Need-returns
 unfolding versionOneOf
-returns c = rw (← c .before .before .pre .0, ne-eqb _ _ (c .if1 .taken))
+returns c = let k = c .before in c .no-packet .ensures ∙ rw (← k .before .before .pre .0, ne-eqb _ _ (k .if1 .taken))
 
 returns-2 : tie.Need-returns-2
 unfolding versionOneOf
-returns-2 c = rw (← c .before .before .before .before .pre .0, eq-eqb _ _ (c .before .before .if1 .left), lt-ltb _ _ (c .if2 .taken))
+returns-2 c = let k = c .before in c .no-packet2 .ensures ∙ rw (← k .before .before .before .before .pre .0, eq-eqb _ _ (k .before .before .if1 .left), lt-ltb _ _ (k .if2 .taken))
 
 returns-3 : tie.Need-returns-3
 unfolding versionOneOf
-returns-3 c = rw (← c .before .before .before .before .before .before .pre .0, eq-eqb _ _ (c .before .before .before .before .if1 .left), le-ltb _ _ (c .before .before .if2 .left), lt-ltb _ _ (c .if3 .taken))
+returns-3 c = let k = c .before in c .no-packet3 .ensures ∙ rw (← k .before .before .before .before .before .before .pre .0, eq-eqb _ _ (k .before .before .before .before .if1 .left), le-ltb _ _ (k .before .before .if2 .left), lt-ltb _ _ (k .if3 .taken))
 
 returns-4 : tie.Need-returns-4
 unfolding versionOneOf
@@ -46,8 +47,11 @@ pub version-one-spec : {M : Type 1} → statement M
 version-one-spec =
     tie.close
     (tie.spec
+    (λ c κs. search needs)
     returns
+    (λ c κs. search needs)
     returns-2
+    (λ c κs. search needs)
     returns-3
     (λ c κs. search needs)
     returns-4

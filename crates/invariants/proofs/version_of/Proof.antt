@@ -1,10 +1,10 @@
--- `datagram::version_of` meets its contract: four bytes are the sum that `bigEndian` computes to.
+-- `invariants::version_of` meets its contract: four bytes are the sum that `bigEndian` computes to.
 -- Assumes nothing.
 use borrow.Author.Needs.{needs}
 use native.Mathlib.Omega.{arith}
 use Rattle.wire.specs.Number.{bigEndian}
-use Rattle.datagram.proofs.version_of.Statement.{statement}
-use Rattle.datagram.proofs.version_of.Tie as tie
+use Rattle.invariants.proofs.version_of.Statement.{statement}
+use Rattle.invariants.proofs.version_of.Tie as tie
 
 returns : tie.Need-returns
 unfolding bigEndian

@@ -1,13 +1,13 @@
--- `datagram::read_invariant` meets its contract: the version and both IDs are read as in the definition, and the version is there where the first ID is asked for.
+-- `invariants::read` meets its contract: the version and both IDs are read as in the definition, and the version is there where the first ID is asked for.
 -- Assumes nothing.
 use borrow.Author.Needs.{needs}
 use mathlib.Core.Path.{sym, _∙_}
 use native.Mathlib.Omega.{arith}
 use Rattle.wire.proofs.Forms.{cut, there}
-use Rattle.datagram.proofs.Cases.{counted}
-use Rattle.datagram.specs.Split.{invariantOf}
-use Rattle.datagram.proofs.read_invariant.Statement.{statement}
-use Rattle.datagram.proofs.read_invariant.Tie as tie
+use Rattle.invariants.proofs.Cases.{counted}
+use Rattle.invariants.specs.Invariant.{invariantOf}
+use Rattle.invariants.proofs.read.Statement.{statement}
+use Rattle.invariants.proofs.read.Tie as tie
 
 returns : tie.Need-returns
 unfolding invariantOf
@@ -30,8 +30,8 @@ unfolding invariantOf
 returns-4 c = let d = c .before .before .before .before .before .before in
     rw (there _ 1 4 _ (d .before .before .before .before .if1 .left), sym (d .before .before .before .id-at .ensures) ∙ d .before .destination .given .1, sym (c .before .before .before .before .id-at2 .ensures) ∙ c .before .before .source .given .1, c .version-of .ensures)
 
-pub read-invariant-spec : {M : Type 1} → statement M
-read-invariant-spec =
+pub read-spec : {M : Type 1} → statement M
+read-spec =
     tie.close
     (tie.spec
     returns

@@ -1,12 +1,12 @@
--- `datagram::bytes_after` meets its contract: the tests are those of `bytesAfter`, with the sum taken apart so that it cannot wrap.
+-- `invariants::bytes_after` meets its contract: the tests are those of `bytesAfter`, with the sum taken apart so that it cannot wrap.
 -- Assumes nothing.
 use borrow.Author.Needs.{needs}
 use mathlib.Core.Path.{sym}
 use native.Mathlib.Omega.{arith}
-use Rattle.datagram.proofs.Cases.{are, cut}
-use Rattle.datagram.specs.Split.{bytesAfter}
-use Rattle.datagram.proofs.bytes_after.Statement.{statement}
-use Rattle.datagram.proofs.bytes_after.Tie as tie
+use Rattle.invariants.proofs.Cases.{are, cut}
+use Rattle.invariants.specs.Invariant.{bytesAfter}
+use Rattle.invariants.proofs.bytes_after.Statement.{statement}
+use Rattle.invariants.proofs.bytes_after.Tie as tie
 
 returns : tie.Need-returns
 unfolding bytesAfter

@@ -1,12 +1,12 @@
--- `datagram::id_at` meets its contract: the length is a plain byte, if it is there.
+-- `invariants::id_at` meets its contract: the length is a plain byte, if it is there.
 -- Assumes nothing.
 use borrow.Author.Needs.{needs}
 use native.Mathlib.Omega.{arith}
 use Rattle.wire.proofs.Forms.{cut, plain-byte}
-use Rattle.datagram.specs.Split.{bytesAfter}
+use Rattle.invariants.specs.Invariant.{bytesAfter}
 use denote.Ref.{now}
-use Rattle.datagram.proofs.id_at.Statement.{statement}
-use Rattle.datagram.proofs.id_at.Tie as tie
+use Rattle.invariants.proofs.id_at.Statement.{statement}
+use Rattle.invariants.proofs.id_at.Tie as tie
 
 returns : tie.Need-returns
 unfolding bytesAfter

@@ -12,13 +12,12 @@ use Rattle.wire.specs.Number.{plainAt}
 use Rattle.wire.specs.declared.Number.{Number}
 use Rattle.wire.specs.declared.Number.the-variants as Number'
 use Rattle.wire.proofs.Sound.{found, with-number}
-use Rattle.datagram.specs.declared.Part.{Part}
-use Rattle.datagram.specs.declared.Bytes.{Bytes}
-use Rattle.datagram.specs.declared.Bytes.the-variants as Bytes'
-use Rattle.datagram.specs.declared.Invariant.{Invariant}
-use Rattle.datagram.specs.declared.Invariant.the-variants as Invariant'
-use Rattle.datagram.specs.Header.{partOf, after}
-use Rattle.datagram.specs.Split.{bytesAfter, withBytes, invariantOf, withInvariant}
+use Rattle.invariants.specs.declared.Part.{Part}
+use Rattle.invariants.specs.declared.Bytes.{Bytes}
+use Rattle.invariants.specs.declared.Bytes.the-variants as Bytes'
+use Rattle.invariants.specs.declared.Invariant.{Invariant}
+use Rattle.invariants.specs.declared.Invariant.the-variants as Invariant'
+use Rattle.invariants.specs.Invariant.{partOf, after, bytesAfter, withBytes, invariantOf, withInvariant}
 
 module _ (s : List ℕ) (at len : ℕ) where
   pub are : at + len ≤ length s → bytesAfter s (Number'.Is len at) ≡ Bytes'.Are (partOf at len)
