@@ -16,11 +16,11 @@ use Rattle.wire.proofs.Writing.{past}
 use Rattle.row.specs.Row.{inRange, rowDraft, ReadAs}
 use Rattle.row.proofs.Back as row
 use Rattle.records.specs.declared.Record.{Record}
-use Rattle.records.specs.declared.Run.{Run}
-use Rattle.records.specs.declared.Run.the-variants.{Span, Nothing}
+use Rattle.ring.specs.declared.Run.{Run}
+use Rattle.ring.specs.declared.Run.the-variants.{Span, Nothing}
 use Rattle.records.specs.Marks.{recorded, soundOf}
-use Rattle.records.specs.Runs.{nextRun, afterRun, runsDown, RunOf}
-use Rattle.records.proofs.Meaning.{run-is}
+use Rattle.ring.specs.Runs.{nextRun, afterRun, runsDown, RunOf}
+use Rattle.ring.proofs.Meaning.{run-is}
 use Rattle.records.proofs.Sound.{sound-facts}
 use Rattle.acks.specs.Ack.{rangesOf, frameOf, ackOf, ackDraft}
 

@@ -9,10 +9,10 @@ use native.Mathlib.Omega.{arith}
 use lib.ListN.{length, take, set, length-set}
 use lib.Seq.{take-suc-set, take-set-lt}
 use Rattle.records.specs.declared.Record.{Record}
-use Rattle.records.specs.declared.Run.the-variants.{Span, Nothing}
+use Rattle.ring.specs.declared.Run.the-variants.{Span, Nothing}
 use Rattle.records.specs.Marks.{recorded}
-use Rattle.records.specs.Runs.{nextRun, afterRun, runsDown, IsRun, RunOf}
-use Rattle.records.proofs.Meaning.{run-is, apart}
+use Rattle.ring.specs.Runs.{nextRun, afterRun, runsDown, IsRun, RunOf}
+use Rattle.ring.proofs.Meaning.{run-is, apart}
 use Rattle.acks.specs.Ack.{rangesOf, frameOf, ackOf}
 
 -- the next run, as it is meant

@@ -9,10 +9,10 @@ use Rattle.answers.specs.declared.Answer.the-variants.{NothingToAcknowledge, Do
 use Rattle.wire.specs.Writing.{Draft, Never}
 use Rattle.row.specs.Row.{rowDraft}
 use Rattle.records.specs.declared.Record.{Record}
-use Rattle.records.specs.declared.Run.{Run}
-use Rattle.records.specs.declared.Run.the-variants.{Span, Nothing}
+use Rattle.ring.specs.declared.Run.{Run}
+use Rattle.ring.specs.declared.Run.the-variants.{Span, Nothing}
 use Rattle.records.specs.Marks.{recorded, soundOf}
-use Rattle.records.specs.Runs.{runsDown}
+use Rattle.ring.specs.Runs.{runsDown}
 
 -- 19.3.1: for each further run its Gap, the missing numbers less 1, and its ACK Range Length, the run's numbers less 1; low is the lowest number of the run above
 unfoldable pub rangesOf : ℕ → List Run → List ℕ

@@ -6,7 +6,7 @@ use Prim.Native.Nat.{ℕ, _+_, _-_, _*_, _≤_, _<_}
 use lib.ListN.{length, take}
 use Rattle.records.specs.declared.Record.{Record}
 use Rattle.records.specs.Marks.{recorded}
-use Rattle.records.specs.Runs.{runsDown}
+use Rattle.ring.specs.Runs.{runsDown}
 use Rattle.acks.specs.declared.Front.{Front}
 use Rattle.acks.specs.Ack.{rangesOf, ackOf}
 

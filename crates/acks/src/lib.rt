@@ -5,7 +5,7 @@ ghost use Rattle.acks.specs.Ack.{ackDraft};
 ghost use Rattle.acks.specs.Parts.{Above, Ranged, Framed};
 use answers::Answer;
 use records::Record;
-use records::Run;
+use ring::Run;
 use wire::Wrote;
 
 // The numbers of an ACK frame in the order of the wire: five, and two for each run but the first.

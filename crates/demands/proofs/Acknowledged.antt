@@ -28,11 +28,11 @@ use Rattle.frames.specs.declared.Frame.the-variants.{Ack}
 use Rattle.frames.specs.declared.Reading.the-variants.{Got}
 use Rattle.frames.proofs.Order.{fields-last}
 use Rattle.records.specs.declared.Record.{Record}
-use Rattle.records.specs.declared.Run.{Run}
-use Rattle.records.specs.declared.Run.the-variants.{Span, Nothing}
+use Rattle.ring.specs.declared.Run.{Run}
+use Rattle.ring.specs.declared.Run.the-variants.{Span, Nothing}
 use Rattle.records.specs.Marks.{recorded, soundOf}
-use Rattle.records.specs.Runs.{nextRun, afterRun, runsDown, RunOf}
-use Rattle.records.proofs.Meaning.{run-is, apart}
+use Rattle.ring.specs.Runs.{nextRun, afterRun, runsDown, RunOf}
+use Rattle.ring.proofs.Meaning.{run-is, apart}
 use Rattle.records.proofs.Ring.{rec-in}
 use Rattle.records.proofs.Sound.{sound-facts}
 use Rattle.acks.specs.Ack as acks

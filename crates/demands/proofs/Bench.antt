@@ -11,7 +11,8 @@ use Rattle.frames.specs.Fields.{frameOf, fieldsAt}
 use Rattle.fields.specs.Heads.{headAt}
 use Rattle.frames.specs.Reading.{frameAt}
 use Rattle.numbers.specs.Numbers.{nearestOf, recoveredOf}
-use Rattle.records.specs.Marks.{bit, bitAt, recorded, noneOf, testOf, unmarked, soundOf}
+use Rattle.ring.specs.Bits.{bit, bitAt, unmarked}
+use Rattle.records.specs.Marks.{recorded, noneOf, testOf, soundOf}
 use Rattle.records.specs.Ring.{wordOf, listOf, slotOf, ringOf, withMark, takenOf}
 use Rattle.streams.specs.Entry.{listed, placeOf, finalOf, reached}
 use Rattle.streams.specs.Conn.{upTo, openTo, markedAs}

@@ -3,7 +3,8 @@
 use mathlib.Core.Path.{refl}
 use Rattle.wire.specs.Number.{bigEndian}
 use Rattle.numbers.specs.Numbers.{nearestOf, recoveredOf}
-use Rattle.records.specs.Marks.{bit, bitAt, recorded, noneOf, testOf, unmarked, soundOf}
+use Rattle.ring.specs.Bits.{bit, bitAt, unmarked}
+use Rattle.records.specs.Marks.{recorded, noneOf, testOf, soundOf}
 use Rattle.records.specs.Ring.{wordOf, listOf, slotOf, ringOf, withMark, takenOf}
 use Rattle.streams.specs.Conn.{markedAs}
 use Rattle.streams.specs.Opening.{openedConn}

@@ -15,10 +15,10 @@ use Rattle.frames.specs.declared.Kind.{Kind}
 use Rattle.frames.specs.declared.Frame.the-variants.{Ack}
 use Rattle.frames.specs.declared.Reading.the-variants.{Got}
 use Rattle.records.specs.declared.Record.{Record}
-use Rattle.records.specs.declared.Run.{Run}
-use Rattle.records.specs.declared.Run.the-variants.{Span}
+use Rattle.ring.specs.declared.Run.{Run}
+use Rattle.ring.specs.declared.Run.the-variants.{Span}
 use Rattle.records.specs.Marks.{recorded}
-use Rattle.records.specs.Runs.{runsDown}
+use Rattle.ring.specs.Runs.{runsDown}
 use Rattle.acks.specs.Ack.{ackDraft}
 
 -- the runs that a walk down the ranges finds, n at most

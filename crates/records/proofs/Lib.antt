@@ -1,9 +1,6 @@
-pub mod Bits
 pub mod Ring
 pub mod Sound
 pub mod None
-pub mod Runs
-pub mod Meaning
 pub mod Same
 pub mod Window
 pub mod Taking

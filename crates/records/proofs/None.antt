@@ -6,8 +6,9 @@ use mathlib.Core.Bool.{false}
 use native.Mathlib.Omega.{arith}
 use lib.ListN.{getD-replicate}
 use Rattle.answers.specs.declared.Answer.the-variants.{Accepted}
-use Rattle.records.specs.Marks.{bit, bitAt, recorded, noneOf, checkOf, Sound}
-use Rattle.records.proofs.Bits.{bit-zero}
+use Rattle.ring.specs.Bits.{bit, bitAt}
+use Rattle.records.specs.Marks.{recorded, noneOf, checkOf, Sound}
+use Rattle.ring.proofs.Bits.{bit-zero}
 use Rattle.records.proofs.Ring.{rec-above}
 use Rattle.records.proofs.Sound.{fits}
 

@@ -12,20 +12,10 @@ use lib.Seq.{getD-set-same, getD-set-other}
 use lib.Dec.{leb, eqb}
 use borrow.Author.Tests.{lt-ltb, le-ltb, le-leb, lt-leb, eq-eqb, ne-eqb}
 use Rattle.records.specs.declared.Record.{Record}
-use Rattle.records.specs.Marks.{bit, bitAt, recorded, Sound}
-use Rattle.records.specs.Parts.{Whole, Kept, Put, Cleared, Slid, Marked}
-use Rattle.records.proofs.Bits.{bit-lt}
-
--- a bit is 0 or 1
-pub bit-at-lt : (ws : List ℕ) (m : ℕ) → bitAt ws m < 2
-unfolding bitAt
-bit-at-lt ws m = bit-lt (getD ws (m / 64 % 128) 0) (m % 64)
-
-pub not-zero : (ws : List ℕ) (m : ℕ) → (bitAt ws m ≡ 0 → ⊥) → bitAt ws m ≡ 1
-not-zero ws m f = omega (arith, bit-at-lt ws m)
-
-pub not-one : (ws : List ℕ) (m : ℕ) → (bitAt ws m ≡ 1 → ⊥) → bitAt ws m ≡ 0
-not-one ws m f = omega (arith, bit-at-lt ws m)
+use Rattle.ring.specs.Bits.{bit, bitAt}
+use Rattle.ring.specs.Parts.{Kept, Put}
+use Rattle.records.specs.Marks.{recorded, Sound}
+use Rattle.records.specs.Parts.{Whole, Cleared, Slid, Marked}
 
 module _ (vs : List ℕ) (k r m : ℕ) where
   same-word : k < length vs → m / 64 % 128 ≡ k → bitAt (set vs k r) m ≡ bit r (m % 64)

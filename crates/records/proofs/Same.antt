@@ -11,10 +11,12 @@ use lib.Seq.{ext-getD}
 use lib.Dec.{eqb, leb}
 use borrow.Author.Tests.{eq-eqb, ne-eqb, eqb-true, eqb-false}
 use Rattle.records.specs.declared.Record.{Record}
-use Rattle.records.specs.Marks.{bit, bitAt, recorded, Words, Sound}
+use Rattle.ring.specs.Bits.{bit, bitAt}
+use Rattle.records.specs.Marks.{recorded, Words, Sound}
 use Rattle.records.specs.Parts.{Marked}
-use Rattle.records.proofs.Bits.{bit-shift}
-use Rattle.records.proofs.Ring.{rec-in, rec-above, same-place, bit-at-lt}
+use Rattle.ring.proofs.Bits.{bit-shift}
+use Rattle.ring.proofs.Marked.{bit-at-lt}
+use Rattle.records.proofs.Ring.{rec-in, rec-above, same-place}
 
 -- two words of k bits with the same bits are one
 bits-ext : (k a b : ℕ) → a < 2 ^ k → b < 2 ^ k → ((i : ℕ) → i < k → bit a i ≡ bit b i) → a ≡ b

@@ -47,16 +47,6 @@ module _ (R : Record) where
     unfolding takenOf
     take-large e h = simp (can-be e, lt-ltb (2 ^ 62 - 1) n h)
 
-    pub take-known : checkOf R ≡ Accepted → n ≤ 2 ^ 62 - 1 → (testOf R n ≡ Accepted → ⊥) → left R (testOf R n) ≡ takenOf R n
-    unfolding takenOf testOf
-    take-known e h f = simp (can-be e, le-ltb (2 ^ 62 - 1) n h) (go (ltb (n + 8192) (R .top)) (recorded R n) f)
-      where
-        go : (a b : Bool) → ((a ⇒ BelowRecord ∣ b ⇒ InRecord ∣ Accepted) ≡ Accepted → ⊥)
-            → left R (a ⇒ BelowRecord ∣ b ⇒ InRecord ∣ Accepted) ≡ (a ⇒ left R BelowRecord ∣ b ⇒ left R InRecord ∣ record { answer = Accepted; «record» = withMark R n })
-        go true b f = refl
-        go false true f = refl
-        go false false f = absurd (f refl)
-
     pub take-new : checkOf R ≡ Accepted → n ≤ 2 ^ 62 - 1 → testOf R n ≡ Accepted → record { answer = Accepted; «record» = withMark R n } ≡ takenOf R n
     unfolding takenOf testOf
     take-new e h f = simp (can-be e, le-ltb (2 ^ 62 - 1) n h) (go (ltb (n + 8192) (R .top)) (recorded R n) f)
@@ -66,6 +56,15 @@ module _ (R : Record) where
         go true b f = never BelowRecord (omega arith) f
         go false true f = never InRecord (omega arith) f
         go false false f = refl
+
+    pub take-answer : checkOf R ≡ Accepted → n ≤ 2 ^ 62 - 1 → testOf R n ≡ takenOf R n .answer
+    unfolding takenOf testOf
+    take-answer e h = simp (can-be e, le-ltb (2 ^ 62 - 1) n h) (go (ltb (n + 8192) (R .top)) (recorded R n))
+      where
+        go : (a b : Bool) → (a ⇒ BelowRecord ∣ b ⇒ InRecord ∣ Accepted) ≡ (a ⇒ left R BelowRecord ∣ b ⇒ left R InRecord ∣ record { answer = Accepted; «record» = withMark R n }) .answer
+        go true b = refl
+        go false true = refl
+        go false false = refl
 
     -- the laws of an answer: an acceptance by what it rests on, and a refusal leaves the record as it was
     pub accepts : takenOf R n .answer ≡ Accepted → Accepts R n (takenOf R n .«record»)

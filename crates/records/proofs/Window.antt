@@ -10,10 +10,11 @@ use lib.Dec.{leb, eqb}
 use borrow.Author.Tests.{lt-ltb, le-ltb, le-leb, lt-leb, eq-eqb, ne-eqb}
 use Rattle.answers.proofs.Choice.{below-or-not}
 use Rattle.records.specs.declared.Record.{Record}
-use Rattle.records.specs.Marks.{asBit, bit, bitAt, recorded, Words, Sound}
+use Rattle.ring.specs.Bits.{asBit, bit, bitAt}
+use Rattle.records.specs.Marks.{recorded, Words, Sound}
 use Rattle.records.specs.Ring.{wordOf, listOf, slotOf, ringOf, withMark}
 use Rattle.records.specs.Parts.{Marked}
-use Rattle.records.proofs.Bits.{bit-shift}
+use Rattle.ring.proofs.Bits.{bit-shift}
 use Rattle.records.proofs.Ring.{rec-in, rec-above, rec-below}
 
 digit : (b : Bool) → asBit b < 2

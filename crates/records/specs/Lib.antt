@@ -1,4 +1,3 @@
 pub mod Marks
-pub mod Runs
 pub mod Ring
 pub mod Parts

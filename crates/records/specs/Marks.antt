@@ -1,31 +1,19 @@
 -- The numbers that a packet record holds, document 01, "Packet numbers": those from largest-8,191 to largest, a bit for each; and what is answered of a record and of a number.
-use Prim.Native.Nat.{ℕ, zero, suc, _+_, _-_, _/_, _%_, _^_, _≤_, _<_}
+use Prim.Native.Nat.{ℕ, _+_, _-_, _^_, _≤_, _<_}
 use mathlib.Core.Path.{_≡_}
-use mathlib.Core.Bool.{Bool, true, false, _&&_, _||_}
+use mathlib.Core.Bool.{Bool, _&&_, _||_}
 use mathlib.Core.List.{List}
 use lib.ListN.{length, getD, replicate}
 use lib.Dec.{ltb, leb, eqb}
 use Rattle.answers.specs.Choice.{_⇒_∣_}
 use Rattle.answers.specs.declared.Answer.{Answer}
 use Rattle.answers.specs.declared.Answer.the-variants.{Accepted, BelowRecord, InRecord, DoesNotFit}
+use Rattle.ring.specs.Bits.{bitAt, marked, unmarked}
 use Rattle.records.specs.declared.Record.{Record}
-
--- a test as a bit
-abbrev pub asBit : Bool → ℕ
-asBit true = 1
-asBit false = 0
-
--- the bit i of a word
-unfoldable pub bit : ℕ → ℕ → ℕ
-bit w i = w / 2 ^ i % 2
-
--- the bit of the number m in a ring of 128 words
-unfoldable pub bitAt : List ℕ → ℕ → ℕ
-bitAt ws m = bit (getD ws (m / 64 % 128) 0) (m % 64)
 
 -- the number m is recorded: it is among the 8,192 numbers that end with the largest, and its bit is set
 unfoldable pub recorded : Record → ℕ → Bool
-recorded R m = ltb m (R .top) && (leb (R .top) (m + 8192) && eqb (bitAt (R .words) m) 1)
+recorded R = marked (R .words) (R .top)
 
 -- the record of a space of which nothing came
 unfoldable pub noneOf : Record
@@ -37,11 +25,6 @@ testOf R n =
     ltb (n + 8192) (R .top) ⇒ BelowRecord
     ∣ recorded R n ⇒ InRecord
     ∣ Accepted
-
--- no slot is marked from p on, for k slots
-unfoldable pub unmarked : List ℕ → ℕ → ℕ → Bool
-unmarked ws p zero = true
-unmarked ws p (suc k) = eqb (bitAt ws p) 0 && unmarked ws (suc p) k
 
 -- a record that can be: no number below 0 is marked (theirs are the slots from the top up to 8,192), the largest is marked, and it is not above 2^62-1
 unfoldable pub soundOf : Record → Bool

@@ -1,12 +1,13 @@
 -- What the parts of the code do to words and to a record, bit by bit.
 use Prim.Native.Nat.{ℕ, _+_, _-_, _^_, _≤_, _<_, max}
 use mathlib.Core.Path.{_≡_}
-use mathlib.Core.Bool.{Bool, true, false, _&&_, _||_}
+use mathlib.Core.Bool.{_&&_, _||_}
 use mathlib.Core.List.{List}
 use lib.ListN.{length, getD}
 use lib.Dec.{leb, eqb}
 use Rattle.records.specs.declared.Record.{Record}
-use Rattle.records.specs.Marks.{asBit, bit, bitAt, recorded, Sound}
+use Rattle.ring.specs.Bits.{bitAt}
+use Rattle.records.specs.Marks.{recorded, Sound}
 
 -- the record with these words and this top, which the code is lent apart
 abbrev pub joined : List ℕ → ℕ → Record
@@ -16,21 +17,6 @@ joined ws T = record { words = ws; top = T }
 pub record Whole (ws : List ℕ) : Type 0 where
   pub long : length ws ≡ 128
   pub small : (k : ℕ) → getD ws k 0 < 2 ^ 64
-
--- r is the word w without the bits from lo up to hi
-pub record Kept (w lo hi r : ℕ) : Type 0 where
-  pub out : (i : ℕ) → lo ≤ i → i < hi → bit r i ≡ 0
-  pub low : (i : ℕ) → i < lo → bit r i ≡ bit w i
-  pub high : (i : ℕ) → hi ≤ i → i < 64 → bit r i ≡ bit w i
-
--- r is the word w with the bit b
-pub record Put (w b r : ℕ) : Type 0 where
-  pub same : bit r b ≡ 1
-  pub other : (i : ℕ) → (i ≡ b → ⊥) → bit r i ≡ bit w i
-
--- the word w has no bit from s on
-abbrev pub Blank : ℕ → ℕ → Type 0
-Blank w s = (i : ℕ) → s ≤ i → i < 64 → bit w i ≡ 0
 
 -- vs is the ring ws without the marks of the numbers from `from` up to `to`
 pub record Cleared (ws : List ℕ) (from to : ℕ) (vs : List ℕ) : Type 0 where
@@ -49,15 +35,3 @@ pub record Marked (R : Record) (n : ℕ) (S : Record) : Type 0 where
   pub top : S .top ≡ max (R .top) (n + 1)
   pub recorded-is : (m : ℕ) → recorded S m ≡ (leb (S .top) (m + 8192) && (eqb m n || recorded R m))
   pub sound : Sound R → Sound S
-
--- from r up to `at` all bits are v, and no lower, unless r is the bottom
-pub record Down (ws : List ℕ) (at bottom : ℕ) (v : Bool) (r : ℕ) : Type 0 where
-  pub within : r ≤ at
-  pub least : bottom ≤ r
-  pub all : (m : ℕ) → r ≤ m → m < at → bitAt ws m ≡ asBit v
-  pub stop : bottom < r → bitAt ws (r - 1) ≡ asBit v → ⊥
-
--- a claim decided by a bool
-pub record Decides (P : Type 0) (r : Bool) : Type 0 where
-  pub holds : r ≡ true → P
-  pub fails : r ≡ false → P → ⊥

@@ -10,7 +10,8 @@ use Rattle.answers.specs.declared.Answer.the-variants.{Accepted, BelowRecord, I
 use Rattle.records.specs.declared.Record.{Record}
 use Rattle.records.specs.declared.Taken.{Taken}
 use Rattle.records.specs.declared.Topped.{Topped}
-use Rattle.records.specs.Marks.{asBit, recorded, testOf, soundOf, Sound}
+use Rattle.ring.specs.Bits.{asBit}
+use Rattle.records.specs.Marks.{recorded, testOf, soundOf, Sound}
 
 -- the word of k bits whose bit i is set exactly where b i holds
 unfoldable pub wordOf : ℕ → (ℕ → Bool) → ℕ

@@ -1,23 +1,19 @@
 // The record of the last 8,192 packet numbers of a space (document 01, "Packet numbers"): a ring of 128 words, a bit for each number.
 ghost use mathlib.Core.Path.{_≡_};
-ghost use Prim.Native.Nat.{_+_, _*_, _≤_, _<_, _^_};
-ghost use Rattle.records.specs.Marks.{bitAt, recorded, noneOf, Clean, checkOf, testOf};
-ghost use Rattle.records.specs.Runs.{nextRun};
+ghost use Prim.Native.Nat.{_+_, _≤_, _<_, _^_};
+ghost use Rattle.ring.specs.Runs.{nextRun};
+ghost use Rattle.ring.specs.Parts.{Kept, Put};
+ghost use Rattle.records.specs.Marks.{recorded, noneOf, checkOf, testOf};
 ghost use Rattle.records.specs.Ring.{takenOf, takenIn};
-ghost use Rattle.records.specs.Parts.{joined, Whole, Kept, Put, Blank, Cleared, Slid, Marked, Down, Decides};
+ghost use Rattle.records.specs.Parts.{joined, Whole, Cleared, Slid, Marked};
 use answers::Answer;
+use ring::Run;
 
 // A record is a value, handed in and handed back. The number n has the bit n % 64 of the word n / 64 % 128.
 pub struct Record {
     pub words: [u64; 128],
     // One above the largest number, 0 if there is none.
     pub top: u64,
-}
-
-// A run of recorded numbers, from the highest down to the lowest, or none.
-pub enum Run {
-    Span { high: u64, low: u64 },
-    Nothing,
 }
 
 // The answer to a number that comes, and the record after it.
@@ -57,68 +53,6 @@ fn put(w: u64, b: u64) -> u64
     w | (1u64 << b)
 }
 
-// Whether the word w has no bit from s on.
-fn blank(w: u64, s: u64) -> bool
-    requires { ⌜ s < 64 ⌝ }
-    ensures { λ r. ⌜ Decides (Blank w s) r ⌝ }
-{
-    w >> s == 0
-}
-
-// The bit of the number n. This and what follows is lent the words, since a record by value is a copy of 1 KB for each call.
-fn bit_at(words: &[u64; 128], n: u64) -> u64
-    ensures { λ r. ⌜ r ≡ bitAt (now (words .entry)) n ⌝ }
-{
-    let at = (n / 64 % 128) as usize;
-    (words[at] >> (n % 64)) % 2
-}
-
-// The lowest number down to which, from `at`, all bits are like `ones`, but not below `bottom`.
-fn down(words: &[u64; 128], at: u64, bottom: u64, ones: bool) -> u64
-    requires { ⌜ bottom ≤ at ⌝ }
-    ensures { λ r. ⌜ Down (now (words .entry)) at bottom ones r ⌝ }
-{
-    let mut v = 0;
-    if ones {
-        v = 1;
-    }
-    let mut low = at;
-    while bottom < low {
-        if bit_at(words, low - 1) != v {
-            return low;
-        }
-        low = low - 1;
-    }
-    low
-}
-
-// Whether the words from `from` on have no bit. It does not stop at the first one that has, so that several words are looked at in one step.
-fn zeros(words: &[u64; 128], from: usize) -> bool
-    ensures { λ r. ⌜ Decides (Clean (joined (now (words .entry)) (64 * from))) r ⌝ }
-{
-    let mut all = 0;
-    let mut k = from;
-    while k < 128 {
-        all |= words[k];
-        k += 1;
-    }
-    blank(all, 0)
-}
-
-// Whether no number below 0 is marked: while the largest is below 8,191 the slots above it are theirs, the rest of a word and whole words.
-fn clean(words: &[u64; 128], top: u64) -> bool
-    ensures { λ r. ⌜ Decides (Clean (joined (now (words .entry)) top)) r ⌝ }
-{
-    if 8192 <= top {
-        return true;
-    }
-    let k = (top / 64) as usize;
-    if !blank(words[k], top % 64) {
-        return false;
-    }
-    zeros(words, k + 1)
-}
-
 // 120 for a record that cannot be.
 pub fn check_of(words: &[u64; 128], top: u64) -> Answer
     ensures { λ r. ⌜ r ≡ checkOf (joined (now (words .entry)) top) ⌝ }
@@ -128,11 +62,11 @@ pub fn check_of(words: &[u64; 128], top: u64) -> Answer
         if MOST < largest {
             return Answer::DoesNotFit;
         }
-        if bit_at(words, largest) == 0 {
+        if ring::bit_at(words, largest) == 0 {
             return Answer::DoesNotFit;
         }
     }
-    if clean(words, top) {
+    if ring::is_clean(words, top) {
         return Answer::Accepted;
     }
     Answer::DoesNotFit
@@ -149,7 +83,7 @@ pub fn test_of(words: &[u64; 128], top: u64, n: u64) -> Answer
     if 8192 < top - n {
         return Answer::BelowRecord;
     }
-    if bit_at(words, n) == 1 {
+    if ring::bit_at(words, n) == 1 {
         return Answer::InRecord;
     }
     Answer::Accepted
@@ -208,23 +142,24 @@ fn whole(words: [u64; 128])
     ensures { λ _. ⌜ Whole words ⌝ }
 {}
 
+// The answer to a number that comes: 120, 111, 106, 107 or 0.
+fn answer_to(words: &[u64; 128], top: u64, n: u64) -> Answer
+    ensures { λ r. ⌜ r ≡ takenOf (joined (now (words .entry)) top) n .answer ⌝ }
+{
+    let Answer::Accepted = check_of(words, top) else {
+        return Answer::DoesNotFit;
+    };
+    if MOST < n {
+        return Answer::NoSuchNumber;
+    }
+    test_of(words, top, n)
+}
+
 // Records a number that comes in words that are lent: 120, 111, 106 and 107 leave them and the top as they were.
 pub fn take_of(words: &mut [u64; 128], top: u64, n: u64) -> Topped
     ensures { λ r. ⌜ takenIn r (now (words .exit)) ≡ takenOf (joined (now (words .entry)) top) n ⌝ }
 {
-    let Answer::Accepted = check_of(words, top) else {
-        return Topped {
-            answer: Answer::DoesNotFit,
-            top,
-        };
-    };
-    if MOST < n {
-        return Topped {
-            answer: Answer::NoSuchNumber,
-            top,
-        };
-    }
-    let answer = test_of(words, top, n);
+    let answer = answer_to(words, top, n);
     let Answer::Accepted = answer else {
         return Topped { answer, top };
     };
@@ -276,25 +211,6 @@ impl Record {
     pub fn next_run(self, below: u64) -> Run
         ensures { λ r. ⌜ r ≡ nextRun (recorded self) below ⌝ }
     {
-        let top = self.top;
-        let mut bottom = 0;
-        if 8192 < top {
-            bottom = top - 8192;
-        }
-        let mut at = below;
-        if top < below {
-            at = top;
-        }
-        if at <= bottom {
-            return Run::Nothing;
-        }
-        let high = down(&self.words, at, bottom, false);
-        if high <= bottom {
-            return Run::Nothing;
-        }
-        Run::Span {
-            high: high - 1,
-            low: down(&self.words, high, bottom, true),
-        }
+        ring::next_run(&self.words, self.top, below)
     }
 }

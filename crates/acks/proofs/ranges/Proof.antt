@@ -5,7 +5,7 @@ use Prim.Native.Nat.{ℕ, _-_}
 use native.Mathlib.Omega.{arith}
 use borrow.Author.Needs.{needs}
 use Rattle.records.specs.Marks.{recorded}
-use Rattle.records.specs.Runs.{runsDown}
+use Rattle.ring.specs.Runs.{runsDown}
 use Rattle.acks.proofs.Going.{Going, begin, gap, turn, ended, none}
 use Rattle.acks.proofs.ranges.Statement.{statement}
 use Rattle.acks.proofs.ranges.Tie as tie

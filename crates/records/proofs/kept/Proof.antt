@@ -3,7 +3,7 @@
 use borrow.Author.Needs.{needs}
 use native.Mathlib.Omega.{arith}
 use lib.Pow.{pow-pos}
-use Rattle.records.proofs.Bits.{one-shl, shr-shl, kept-top, kept-mid, kept-fits}
+use Rattle.ring.proofs.Bits.{one-shl, shr-shl, kept-top, kept-mid, kept-fits}
 use Rattle.records.proofs.kept.Statement.{statement}
 use Rattle.records.proofs.kept.Tie as tie
 

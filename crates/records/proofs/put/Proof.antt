@@ -1,7 +1,7 @@
 -- `records::put` meets its contract: the shift gives the one bit b, and `|` goes bit by bit.
 -- Assumes nothing.
 use borrow.Author.Needs.{needs}
-use Rattle.records.proofs.Bits.{one-shl, put-bit}
+use Rattle.ring.proofs.Bits.{one-shl, put-bit}
 use Rattle.records.proofs.put.Statement.{statement}
 use Rattle.records.proofs.put.Tie as tie
 

@@ -1,16 +1,16 @@
--- `records::zeros` meets its contract: `all` has no bit exactly where no word from the first up to `k` has one.
+-- `ring::zeros` meets its contract: `all` has no bit exactly where no word from the first up to `k` has one.
 -- Assumes nothing.
 use native.Mathlib.Omega.{arith}
 use mathlib.Core.Path.{_≡_}
 use Prim.Native.Nat.{ℕ, _-_, _*_, _≤_, _<_}
 use lib.ListN.{getD}
 use Rattle.answers.proofs.Choice.{below-or-not}
-use Rattle.records.specs.Marks.{bitAt}
-use Rattle.records.specs.Parts.{Blank}
-use Rattle.records.proofs.Bits.{bit-zero}
-use Rattle.records.proofs.Sound.{bits-of, word-of, blank-or, or-blank}
-use Rattle.records.proofs.zeros.Statement.{statement}
-use Rattle.records.proofs.zeros.Tie as tie
+use Rattle.ring.specs.Bits.{bitAt}
+use Rattle.ring.specs.Parts.{Blank}
+use Rattle.ring.proofs.Bits.{bit-zero}
+use Rattle.ring.proofs.Clean.{bits-of, word-of, blank-or, or-blank}
+use Rattle.ring.proofs.zeros.Statement.{statement}
+use Rattle.ring.proofs.zeros.Tie as tie
 
 abbrev Inv-loop : tie.InvT-loop
 Inv-loop words from all₀ k₀ all k = (from ≤ k) × (Blank all 0 → (m : ℕ) → 64 * from ≤ m → m < 64 * k → m < 8192 → bitAt words m ≡ 0)

@@ -6,9 +6,9 @@ use mathlib.Core.Bool.{Bool, true, false, true≢false}
 use native.Mathlib.Omega.{arith}
 use native.Mathlib.Decide.{ℕ-discrete}
 use Rattle.answers.specs.Choice.{_⇒_∣_}
-use Rattle.records.specs.declared.Run.{Run}
-use Rattle.records.specs.declared.Run.the-variants.{Span, Nothing}
-use Rattle.records.specs.Runs.{lowest, nextRun, Lowest, IsRun, RunOf}
+use Rattle.ring.specs.declared.Run.{Run}
+use Rattle.ring.specs.declared.Run.the-variants.{Span, Nothing}
+use Rattle.ring.specs.Runs.{lowest, nextRun, Lowest, IsRun, RunOf}
 
 pub lowest-is : (P : ℕ → Bool) (k : ℕ) → Lowest P k (lowest P k)
 unfolding lowest

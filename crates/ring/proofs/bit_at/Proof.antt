@@ -1,10 +1,10 @@
--- `records::bit_at` meets its contract: the definition names the same word and the same bit.
+-- `ring::bit_at` meets its contract: the definition names the same word and the same bit.
 -- Assumes nothing.
 use borrow.Author.Needs.{needs}
 use mathlib.Core.Path.{refl}
-use Rattle.records.specs.Marks.{bit, bitAt}
-use Rattle.records.proofs.bit_at.Statement.{statement}
-use Rattle.records.proofs.bit_at.Tie as tie
+use Rattle.ring.specs.Bits.{bit, bitAt}
+use Rattle.ring.proofs.bit_at.Statement.{statement}
+use Rattle.ring.proofs.bit_at.Tie as tie
 
 returns : tie.Need-returns
 unfolding bitAt bit

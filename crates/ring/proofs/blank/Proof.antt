@@ -1,10 +1,10 @@
--- `records::blank` meets its contract: the shift leaves exactly the bits from s on, and a word that is not 0 has a bit.
+-- `ring::blank` meets its contract: the shift leaves exactly the bits from s on, and a word that is not 0 has a bit.
 -- Assumes nothing.
 use borrow.Author.Needs.{needs}
 use borrow.Author.Tests.{eqb-true, eqb-false}
-use Rattle.records.proofs.Sound.{blank-word, marked-word}
-use Rattle.records.proofs.blank.Statement.{statement}
-use Rattle.records.proofs.blank.Tie as tie
+use Rattle.ring.proofs.Clean.{blank-word, marked-word}
+use Rattle.ring.proofs.blank.Statement.{statement}
+use Rattle.ring.proofs.blank.Tie as tie
 
 returns : tie.Need-returns
 returns c =

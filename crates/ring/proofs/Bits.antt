@@ -8,8 +8,8 @@ use native.Mathlib.Nat.{zero-div, mod-lt, mod-eq-of-lt, div-eq-of-lt, div-mul-le
 use lib.Pow.{pow-pos, pow-mono, pow-lt, shr-shr, field, mod-mod-pow, high, low}
 use lib.Count.{leading-top}
 use lib.Bits.{bitOr, or-shr, or-step}
-use Rattle.records.specs.Marks.{bit}
-use Rattle.records.specs.Parts.{Kept, Put}
+use Rattle.ring.specs.Bits.{bit}
+use Rattle.ring.specs.Parts.{Kept, Put}
 
 pub bit-lt : (w i : ℕ) → bit w i < 2
 unfolding bit

@@ -1,4 +1,4 @@
--- `records::down` meets its contract: from `low` up to `at` all bits are like `ones`, and it stops at the first that is not.
+-- `ring::down` meets its contract: from `low` up to `at` all bits are like `ones`, and it stops at the first that is not.
 -- Assumes nothing.
 use borrow.Author.Needs.{needs}
 use native.Mathlib.Omega.{arith}
@@ -6,9 +6,9 @@ use native.Mathlib.Decide.{ℕ-discrete}
 use mathlib.Core.Path.{_≡_, sym, ap, _∙_}
 use mathlib.Core.Logic.{⊎-elim}
 use Prim.Native.Nat.{ℕ, _-_, _≤_, _<_}
-use Rattle.records.specs.Marks.{asBit, bitAt}
-use Rattle.records.proofs.down.Statement.{statement}
-use Rattle.records.proofs.down.Tie as tie
+use Rattle.ring.specs.Bits.{asBit, bitAt}
+use Rattle.ring.proofs.down.Statement.{statement}
+use Rattle.ring.proofs.down.Tie as tie
 
 abbrev Inv-loop : tie.InvT-loop
 Inv-loop words at bottom ones v low₀ low = (bottom ≤ low) × (low ≤ at) × (v ≡ asBit ones) × ((m : ℕ) → low ≤ m → m < at → bitAt words m ≡ asBit ones)

@@ -1,0 +1,6 @@
+pub mod Bits
+pub mod Clean
+pub mod Marked
+pub mod Meaning
+pub mod Runs
+pub mod Unique
