@@ -1,26 +1,21 @@
 -- A frame that was read is sound, once over its layout: its numbers and its tail end within the payload and not before their places, and the type above it.
 -- Assumes nothing.
 use mathlib.Core.Path.{_≡_, refl, sym, subst}
-use mathlib.Core.Bool.{Bool, true, false, not}
+use mathlib.Core.Bool.{true, not}
 use mathlib.Core.List.{List}
-use Prim.Native.Nat.{ℕ, _+_, _-_, _≤_}
+use Prim.Native.Nat.{ℕ, _≤_}
 use native.Mathlib.Omega.{arith}
-use borrow.Author.Tests.{not-false, ltb-false, leb-true}
-use lib.Dec.{ltb}
-use lib.ListN.{length, getD}
-use Rattle.answers.specs.declared.Answer.{Answer}
+use borrow.Author.Tests.{not-false, leb-true}
+use lib.ListN.{length}
 use Rattle.answers.specs.declared.Answer.the-variants.{FrameEncoding, ProtocolViolation}
 use Rattle.answers.proofs.Choice.{holds}
 use Rattle.answers.proofs.Distinct.{impossible}
 use Rattle.wire.specs.Number.{numberAt, shortest}
 use Rattle.wire.specs.declared.Number.the-variants.{Is}
 use Rattle.wire.proofs.Sound as number
-use Rattle.ranges.specs.Ranges.{rangesAt}
-use Rattle.ranges.specs.declared.Ranges.{Ranges}
-use Rattle.ranges.proofs.Sound as ranges
 use Rattle.layouts.specs.Layout.{layoutOf, known}
 use Rattle.fields.specs.Faults.{faultOf}
-use Rattle.layouts.specs.Body.{optionalAt, numbersAt, sizedAt, countedAt, remainderAt, identityAt, rangedAt, bodyAt}
+use Rattle.layouts.specs.Body.{numbersAt, bodyAt}
 use Rattle.fields.specs.Parts.{endedAt, partsAt, withFields}
 use Rattle.fields.specs.declared.Fields.{Fields}
 use Rattle.fields.specs.declared.Fields.the-variants.{Wrong}
@@ -30,12 +25,6 @@ use Rattle.fields.specs.Heads.{headAt}
 use Rattle.frames.specs.Reading.{withHead, admittedHead, frameAt, anyFrameAt}
 use Rattle.frames.specs.Sound.{Lies, FieldsRead}
 use Rattle.frames.specs.declared.Kind.{Kind}
-use Rattle.layouts.specs.declared.Tail.{Tail}
-use Rattle.layouts.specs.declared.Tail.the-variants as Tail'
-use Rattle.layouts.specs.declared.Numbers.{Numbers}
-use Rattle.layouts.specs.declared.Numbers.the-variants.{Are, CutShort}
-use Rattle.layouts.specs.declared.Body.{Body}
-use Rattle.layouts.specs.declared.Body.the-variants as Body'
 use Rattle.frames.specs.declared.Frame.{Frame}
 use Rattle.fields.specs.declared.Head.{Head}
 use Rattle.fields.specs.declared.Head.the-variants as Head'

@@ -1,6 +1,6 @@
 // Frames (RFC 9000, 12.4 and 19): one frame read at a place of a payload, in the order of document 01.
 mod admission;
-mod whole;
+mod assembly;
 
 ghost use mathlib.Core.Path.{_≡_};
 ghost use Rattle.frames.specs.Fields.{fieldsAt};
@@ -136,7 +136,7 @@ fn read_fields(s: &[u8], at: usize, ty: u64) -> Reading
         };
     };
     Reading::Got {
-        frame: whole::put_together(parts),
+        frame: assembly::assemble(parts),
         ty,
         next,
     }

@@ -16,4 +16,4 @@ read-fields-spec =
     (λ c. search needs)
     (λ c. rw (sym (c .before .before .read .ensures) ∙ c .enum-told .given .1))
     (λ c κs. search needs)
-    (λ c. let k = c .before in rw (c .put-together .ensures, sym (k .before .before .before .read .ensures) ∙ k .before .parts .given .1)))
+    (λ c. let k = c .before in rw (c .assemble .ensures, sym (k .before .before .before .read .ensures) ∙ k .before .parts .given .1)))

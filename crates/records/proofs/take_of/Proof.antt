@@ -2,12 +2,10 @@
 -- Assumes nothing.
 use borrow.Author.Needs.{needs}
 use mathlib.Core.Path.{_≡_, sym, _∙_}
-use native.Mathlib.Omega.{arith}
 use denote.Ref.{now}
-use Rattle.answers.specs.declared.Answer.the-variants.{Accepted}
 use Rattle.answers.proofs.Numbers.{other}
 use Rattle.records.specs.Marks.{Words}
-use Rattle.records.specs.Ring.{withMark, takenOf}
+use Rattle.records.specs.Ring.{withMark}
 use Rattle.records.specs.Parts.{joined}
 use Rattle.records.proofs.Same.{marked-one}
 use Rattle.records.proofs.Window.{with-words, with-marked}

@@ -1,6 +1,6 @@
 -- `layouts::table::find` meets its contract: the code's rows are the definition's table, packed, and are unpacked to it, each by one computation; a type behind it has the layout that the definition gives by default.
 -- Assumes nothing.
-use mathlib.Core.Path.{_≡_, refl, sym, _∙_, ap}
+use mathlib.Core.Path.{_≡_, sym, _∙_}
 use mathlib.Core.List.{List, map}
 use Prim.Native.Nat.{ℕ, _+_, _*_}
 use native.Mathlib.Omega.{arith}

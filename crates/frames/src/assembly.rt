@@ -6,7 +6,7 @@ use fields::Parts;
 use layouts::types;
 
 // The frame that is put together from its parts.
-pub fn put_together(p: Parts) -> Frame
+pub fn assemble(p: Parts) -> Frame
     ensures { λ r. ⌜ r ≡ frameOf p ⌝ }
 {
     let ty = p.ty;

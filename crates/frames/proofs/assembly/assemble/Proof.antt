@@ -1,13 +1,13 @@
--- `frames::whole::put_together` meets its contract: each key of the match is the first test of the definition that holds, and the last arm is left by all of them.
+-- `frames::assembly::assemble` meets its contract: each key of the match is the first test of the definition that holds, and the last arm is left by all of them.
 -- Assumes nothing.
 use borrow.Author.Tests.{eq-eqb, ne-eqb}
 use Rattle.frames.specs.Fields.{frameOf}
-use Rattle.frames.proofs.whole.put_together.Statement.{statement}
-use Rattle.frames.proofs.whole.put_together.Tie as tie
+use Rattle.frames.proofs.assembly.assemble.Statement.{statement}
+use Rattle.frames.proofs.assembly.assemble.Tie as tie
 
-pub put-together-spec : {M : Type 1} → statement M
+pub assemble-spec : {M : Type 1} → statement M
 unfolding frameOf
-put-together-spec =
+assemble-spec =
     tie.close
     (tie.spec
     (λ c. rw (eq-eqb _ _ (c .if1 .taken)))
