@@ -1,17 +1,19 @@
 -- The borders hold by computation.
 -- Assumes nothing.
 use mathlib.Core.Path.{refl}
+use Rattle.halves.specs.Stream.{idOf}
 use Rattle.streams.specs.Entry.{finalOf}
-use Rattle.streams.specs.Conn.{upTo, openTo}
-use Rattle.streams.specs.Opening.{openingOf}
-use Rattle.streams.specs.Rules.{rule1, rule2, blockedOf, sendingOf}
-use Rattle.streams.specs.Calls.{raiseOf, raiseStreamOf, raiseCountOf, openNextOf, handOutOf}
-use Rattle.streams.specs.Frames.{endOf, ruledOf, connAfter, callOf}
-use Rattle.streams.specs.Fits.{isFresh, entryFitsAs, limitsFit, countsFit, connFits, summedOf, concludedOf}
+use Rattle.streams.specs.Conn.{countOf, handedOutOf}
+use Rattle.streams.specs.Opening.{limitsFit, openingOf}
+use Rattle.rules.specs.View.{endOf}
+use Rattle.rules.specs.Rules.{rule1, rule2, blockedOf, forSenderOf}
+use Rattle.rules.specs.Verdict.{verdictOf, connHeard}
+use Rattle.calls.specs.Calls.{raiseOf, replyOf, settledOf, ruledOf, repliedOf}
+use Rattle.limits.specs.Fits.{isFresh, entryFitsAs, openFit, connFits, summedOf, concludedOf}
 use Rattle.accounts.specs.Borders.{Borders}
 
 pub borders : Borders
-unfolding endOf finalOf upTo openTo openingOf rule1 rule2 blockedOf sendingOf raiseOf raiseStreamOf raiseCountOf openNextOf handOutOf ruledOf connAfter callOf isFresh entryFitsAs limitsFit countsFit connFits summedOf concludedOf
+unfolding idOf finalOf countOf handedOutOf limitsFit openingOf endOf rule1 rule2 blockedOf forSenderOf verdictOf connHeard raiseOf replyOf settledOf ruledOf repliedOf isFresh entryFitsAs openFit connFits summedOf concludedOf
 borders = record {
   views = refl;
   spaces = refl;
@@ -32,8 +34,7 @@ borders = record {
   last-number = refl;
   no-number = refl;
   opened-most = refl;
-  opened-credit = refl;
-  opened-count = refl;
+  opened-above = refl;
   end-fits = refl;
   size-fits = refl;
   unopened = refl;

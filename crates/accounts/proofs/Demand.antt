@@ -14,18 +14,21 @@ use Rattle.answers.specs.declared.Answer.{Answer}
 use Rattle.answers.specs.declared.Answer.the-variants.{Accepted, FlowControl, StreamLimit, StreamState, FinalSize}
 use Rattle.streams.specs.declared.Conn.{Conn}
 use Rattle.streams.specs.declared.Entry.{Entry}
-use Rattle.streams.specs.declared.View.the-variants.{Ends}
-use Rattle.streams.specs.Entry.{typeOf, placeOf, finalOf, entryAt, entryOf}
+use Rattle.streams.specs.declared.Limits.{Limits}
+use Rattle.streams.specs.declared.Mark.the-variants.{Open}
+use Rattle.halves.specs.Stream.{streamOf, halfOf, receives, placeOf}
+use Rattle.streams.specs.Entry.{finalOf, entryAt, entryOf}
 use Rattle.streams.specs.Conn.{isOpen, openedOf, countOf}
-use Rattle.streams.specs.Rules.{rule1, rule2, rule3, rule4, rule5, endsOf}
-use Rattle.streams.specs.Frames.{Event, ruledOf}
-use Rattle.streams.specs.Frames.Event.{Got}
-use Rattle.streams.specs.Fits.{sumTo, fits}
-use Rattle.accounts.specs.History.{State, answerOf, Opening, stateOf, AllAccepted, own, furthestOf, finalNamed, furthest, creditOf, maySend, granted, Running, ruling}
+use Rattle.rules.specs.declared.View.the-variants.{Ends}
+use Rattle.rules.specs.Rules.{rule1, rule2, rule3, rule4, rule5, endsOf}
+use Rattle.rules.specs.Verdict.{verdictOf}
+use Rattle.limits.specs.Fits.{sumTo, fits}
+use Rattle.accounts.specs.History.{Event, ruledOf, State, answerOf, stateOf, AllAccepted, own, furthestOf, finalNamed, furthest, creditOf, maySend, granted, ruling}
+use Rattle.accounts.specs.History.Event.{Got}
 use Rattle.accounts.proofs.Tests.{Has, has-listed, place-is}
 use Rattle.accounts.proofs.Sums.{sum-same, sum-le, sum-at, sum-more, sum-streams}
 use Rattle.accounts.proofs.Fits.{Fits, fits-test}
-use Rattle.accounts.proofs.Steps.{may, count-top, opened-in}
+use Rattle.accounts.proofs.Steps.{may}
 use Rattle.accounts.proofs.Owned.{owned, unowned, always}
 
 -- ---- the accounts of a history
@@ -38,7 +41,7 @@ total-ends : (c : Conn) (t : List Entry) → Fits c t → c .total ≡ sumTo 256
 unfolding endAt
 total-ends c t f = f .sum ∙ sum-streams (λ i. entryAt t i .end)
 
-end-furthest : (o : Opening) (h : List Event) (id : ℕ) → AllAccepted o h → id < 256 → endAt (stateOf o h .table) id ≡ furthest h id
+end-furthest : (o : Limits) (h : List Event) (id : ℕ) → AllAccepted o h → id < 256 → endAt (stateOf o h .table) id ≡ furthest h id
 unfolding endAt furthestOf
 end-furthest o h id a l = go (ℕ-discrete (id % 4) 3)
   where
@@ -46,13 +49,13 @@ end-furthest o h id a l = go (ℕ-discrete (id % 4) 3)
     go (yes p) = rw (eq-eqb _ _ p, unowned o h id a (λ x. omega arith))
     go (no p) = rw (ne-eqb _ _ p) (owned o h id a (omega arith, omega arith) .end-is)
 
-pub furthest-beyond : (o : Opening) (h : List Event) (id : ℕ) → AllAccepted o h → 256 ≤ id → furthest h id ≡ 0
+pub furthest-beyond : (o : Limits) (h : List Event) (id : ℕ) → AllAccepted o h → 256 ≤ id → furthest h id ≡ 0
 unfolding furthestOf
 furthest-beyond o h id a l = rw (unowned o h id a (λ x. omega arith))
 
 -- The counted total is the sum, over all streams, of the furthest end or final size that an accepted frame named.
 -- The streams with an ID below 256 are all that there are; so is each larger bound.
-pub total-is-sum : (o : Opening) (h : List Event) → AllAccepted o h → (n : ℕ) → 256 ≤ n → stateOf o h .conn .total ≡ sumTo n (furthest h)
+pub total-is-sum : (o : Limits) (h : List Event) → AllAccepted o h → (n : ℕ) → 256 ≤ n → stateOf o h .conn .total ≡ sumTo n (furthest h)
 total-is-sum o h a n l =
     total-ends (stateOf o h .conn) (stateOf o h .table) (always o h a)
     ∙ sum-same 256 (endAt (stateOf o h .table)) (furthest h) (λ id m. end-furthest o h id a m)
@@ -62,7 +65,7 @@ total-is-sum o h a n l =
 
 may-send : (c : Conn) (id : ℕ) → id % 4 < 3 → id / 4 < countOf c (id % 4) → maySend c id ≡ true
 unfolding maySend
-may-send c id a b = simp (ne-eqb (id % 4) 3 (omega arith), lt-ltb _ _ b)
+may-send c id a b = simp (lt-ltb (id % 4) 3 a, lt-ltb _ _ b)
 
 pub credit-is : (s : State) (id : ℕ) → Has id → creditOf s id ≡ entryOf (s .table) id .credit
 unfolding creditOf
@@ -74,7 +77,7 @@ module _ (s : State) (f : Fits (s .conn) (s .table)) where
 
   share-of : (id : ℕ) → id % 4 < 3 → id / 4 < countOf (s .conn) (id % 4) → share id ≡ entryOf (s .table) id .credit
   unfolding share
-  share-of id a b = rw (may-send (s .conn) id a b) (credit-is s id (a, omega (arith, count-top (s .conn) (id % 4) (f .conn))))
+  share-of id a b = rw (may-send (s .conn) id a b) (credit-is s id (a, omega (arith, f .conn .count-top (id % 4))))
 
   end-share : (id : ℕ) → id < 256 → endAt (s .table) id ≤ share id
   unfolding endAt
@@ -88,15 +91,15 @@ module _ (s : State) (f : Fits (s .conn) (s .table)) where
       go (no p) (yes q) =
           let i = place-is id (omega arith, omega arith) in
           let e : placeOf id / 64 ≡ id % 4 = omega arith in
-          let u = f .each (placeOf id) (omega arith) .unopened (omega (arith, ap (openedOf (s .conn)) e, opened-in (s .conn) (id % 4) (f .conn))) in
+          let u = f .each (placeOf id) (omega arith) .unopened (omega (arith, ap (openedOf (s .conn)) e, f .conn .opened-in (id % 4))) in
           rw (ne-eqb _ _ p, u) (omega arith)
 
   -- a stream that keeps to its own limits is never refused for its neighbours
-  pub room : (id end : ℕ) → id % 4 < 3 → id / 4 < countOf (s .conn) (id % 4) → end ≤ entryOf (s .table) id .credit → granted s ≤ s .conn .credit
-      → s .conn .total + (end - entryOf (s .table) id .end) ≤ s .conn .credit
+  pub room : (id end : ℕ) → id % 4 < 3 → id / 4 < countOf (s .conn) (id % 4) → end ≤ entryOf (s .table) id .credit → granted s ≤ s .conn .limits .credit
+      → s .conn .total + (end - entryOf (s .table) id .end) ≤ s .conn .limits .credit
   unfolding granted share endAt
   room id end a b l enough =
-      let top = count-top (s .conn) (id % 4) (f .conn) in
+      let top = f .conn .count-top (id % 4) in
       let e0 : endAt (s .table) id ≡ entryOf (s .table) id .end = simp (ne-eqb (id % 4) 3 (omega arith)) in
       let s0 : share id ≡ entryOf (s .table) id .credit = share-of id a b in
       let g0 : grown id ≡ max (entryOf (s .table) id .end) end = simp (eq-eqb id id refl) in
@@ -112,7 +115,7 @@ module _ (s : State) (f : Fits (s .conn) (s .table)) where
 
       below : (i : ℕ) → i < 256 → Dec (i ≡ id) → grown i ≤ share i
       below i m (yes x) =
-          let h : Has id = (a, omega (arith, count-top (s .conn) (id % 4) (f .conn))) in
+          let h : Has id = (a, omega (arith, f .conn .count-top (id % 4))) in
           let w = f .each (placeOf id) (omega (arith, place-is id h)) .within in
           subst (λ (y : ℕ). grown y ≤ share y) (sym x) (rw (eq-eqb id id refl) (omega (arith, share-of id a b)))
       below i m (no x) = omega (arith, other i x, end-share i m)
@@ -129,10 +132,16 @@ last-rules limit total credit x end f = go (decLe end credit)
     go (yes p) = simp (le-ltb _ _ p, le-ltb _ _ (f p))
     go (no p) = simp (lt-ltb credit end (omega arith))
 
-module _ (o : Opening) (h : List Event) (r : Running o h) where
-  verdict-by : (id end : ℕ) (fin : Bool) → endsOf (stateOf o h .conn) (entryOf (stateOf o h .table) id) id end fin ≡ ruling (countOf (stateOf o h .conn) (typeOf id)) (creditOf (stateOf o h) id) (own h id) id end fin
+-- a history of accepted events that left the connection open, and with enough credit for all
+pub record Running (o : Limits) (h : List Event) : Type 0 where
+  pub accepted : AllAccepted o h
+  pub still-open : stateOf o h .conn .mark ≡ Open
+  pub enough : granted (stateOf o h) ≤ stateOf o h .conn .limits .credit
+
+module _ (o : Limits) (h : List Event) (r : Running o h) where
+  verdict-by : (id end : ℕ) (fin : Bool) → endsOf (stateOf o h .conn) (entryOf (stateOf o h .table) id) id end fin ≡ ruling (countOf (stateOf o h .conn) (halfOf id)) (creditOf (stateOf o h) id) (own h id) id end fin
   unfolding endsOf ruling
-  verdict-by id end fin = go (rule1 n id) refl (rule2 n id) refl
+  verdict-by id end fin = go (rule1 n (streamOf id)) refl (rule2 n (streamOf id)) refl
     where
       n : ℕ
       n = countOf (stateOf o h .conn) (id % 4)
@@ -145,7 +154,7 @@ module _ (o : Opening) (h : List Event) (r : Running o h) where
       entered =
           rule3 (finalOf (entryOf (stateOf o h .table) id .size)) (entryOf (stateOf o h .table) id .end) end fin ⇒ FinalSize
           ∣ rule4 (entryOf (stateOf o h .table) id .credit) end ⇒ FlowControl
-          ∣ rule5 (stateOf o h .conn .credit) (stateOf o h .conn .total) (entryOf (stateOf o h .table) id .end) end ⇒ FlowControl
+          ∣ rule5 (stateOf o h .conn .limits .credit) (stateOf o h .conn .total) (entryOf (stateOf o h .table) id .end) end ⇒ FlowControl
           ∣ Accepted
 
       named : Answer
@@ -154,18 +163,18 @@ module _ (o : Opening) (h : List Event) (r : Running o h) where
           ∣ rule4 (creditOf (stateOf o h) id) end ⇒ FlowControl
           ∣ Accepted
 
-      rules : rule1 n id ≡ false → rule2 n id ≡ false → entered ≡ named
+      rules : rule1 n (streamOf id) ≡ false → rule2 n (streamOf id) ≡ false → entered ≡ named
       rules a b =
           let m = may n id a b in
-          let has : Has id = (m .0, omega (arith, count-top (stateOf o h .conn) (id % 4) (f .conn))) in
+          let has : Has id = (m .0, omega (arith, f .conn .count-top (id % 4))) in
           let w = owned o h id (r .accepted) has in
           let k = credit-is (stateOf o h) id has in
-          (λ j. rule3 (w .size-is j) (w .end-is j) end fin ⇒ FinalSize ∣ rule4 (sym k j) end ⇒ FlowControl ∣ rule5 (stateOf o h .conn .credit) (stateOf o h .conn .total) (w .end-is j) end ⇒ FlowControl ∣ Accepted)
+          (λ j. rule3 (w .size-is j) (w .end-is j) end fin ⇒ FinalSize ∣ rule4 (sym k j) end ⇒ FlowControl ∣ rule5 (stateOf o h .conn .limits .credit) (stateOf o h .conn .total) (w .end-is j) end ⇒ FlowControl ∣ Accepted)
           ∙ ap (λ (x : Answer). rule3 (finalNamed (own h id)) (furthestOf (own h id)) end fin ⇒ FinalSize ∣ x)
-          (last-rules (stateOf o h .conn .credit) (stateOf o h .conn .total) (creditOf (stateOf o h) id) (furthestOf (own h id)) end (λ l. omega (arith, w .end-is, room (stateOf o h) f id end (m .0) (m .1) (omega arith) (r .enough))))
+          (last-rules (stateOf o h .conn .limits .credit) (stateOf o h .conn .total) (creditOf (stateOf o h) id) (furthestOf (own h id)) end (λ l. omega (arith, w .end-is, room (stateOf o h) f id end (m .0) (m .1) (omega arith) (r .enough))))
 
-      go : (x : Bool) → rule1 n id ≡ x → (y : Bool) → rule2 n id ≡ y
-          → (rule1 n id ⇒ StreamState ∣ rule2 n id ⇒ StreamLimit ∣ entered) ≡ (rule1 n id ⇒ StreamState ∣ rule2 n id ⇒ StreamLimit ∣ named)
+      go : (x : Bool) → rule1 n (streamOf id) ≡ x → (y : Bool) → rule2 n (streamOf id) ≡ y
+          → (rule1 n (streamOf id) ⇒ StreamState ∣ rule2 n (streamOf id) ⇒ StreamLimit ∣ entered) ≡ (rule1 n (streamOf id) ⇒ StreamState ∣ rule2 n (streamOf id) ⇒ StreamLimit ∣ named)
       go true a y b = simp a
       go false a true b = simp (a, b)
       go false a false b = simp (a, b) (rules a b)
@@ -174,19 +183,19 @@ module _ (o : Opening) (h : List Event) (r : Running o h) where
   open-is = ap isOpen (r .still-open)
 
   -- Demand 3, the verdict: it is the ruling by the frame, the stream count for its type, the stream's credit, and its own accepted frames
-  pub verdict-is-own : (id end : ℕ) (fin : Bool) → answerOf (stateOf o h) (Got (Ends id end fin)) ≡ ruling (countOf (stateOf o h .conn) (typeOf id)) (creditOf (stateOf o h) id) (own h id) id end fin
-  unfolding answerOf ruledOf
+  pub verdict-is-own : (id end : ℕ) (fin : Bool) → answerOf (stateOf o h) (Got (Ends id end fin)) ≡ ruling (countOf (stateOf o h .conn) (halfOf id)) (creditOf (stateOf o h) id) (own h id) id end fin
+  unfolding answerOf ruledOf verdictOf
   verdict-is-own id end fin = simp (fits-test _ _ (always o h (r .accepted)), open-is) (verdict-by id end fin)
 
   -- and rule 5 never refuses what rules 1, 2 and 4 let pass
-  pub neighbours-never : (id end : ℕ) → maySend (stateOf o h .conn) id ≡ true → end ≤ creditOf (stateOf o h) id → rule5 (stateOf o h .conn .credit) (stateOf o h .conn .total) (entryOf (stateOf o h .table) id .end) end ≡ false
+  pub neighbours-never : (id end : ℕ) → maySend (stateOf o h .conn) id ≡ true → end ≤ creditOf (stateOf o h) id → rule5 (stateOf o h .conn .limits .credit) (stateOf o h .conn .total) (entryOf (stateOf o h .table) id .end) end ≡ false
   unfolding maySend rule5
   neighbours-never id end m l =
       let f = always o h (r .accepted) in
-      let a = and-eq-true-iff (not (eqb (id % 4) 3)) (ltb (id / 4) (countOf (stateOf o h .conn) (id % 4))) .0 m in
-      let k : id % 4 < 3 = omega (arith, eqb-false (id % 4) 3 (not-true _ (a .0))) in
+      let a = and-eq-true-iff (receives (id % 4)) (ltb (id / 4) (countOf (stateOf o h .conn) (id % 4))) .0 m in
+      let k : id % 4 < 3 = ltb-true (id % 4) 3 (a .0) in
       let b : id / 4 < countOf (stateOf o h .conn) (id % 4) = ltb-true _ _ (a .1) in
-      let has : Has id = (k, omega (arith, count-top (stateOf o h .conn) (id % 4) (f .conn))) in
+      let has : Has id = (k, omega (arith, f .conn .count-top (id % 4))) in
       le-ltb _ _ (room (stateOf o h) f id end k b (omega (arith, credit-is (stateOf o h) id has)) (r .enough))
 
 nothing : furthestOf [] ≡ 0
@@ -196,13 +205,13 @@ nothing = refl
 -- ---- Demand 3, as it is read
 
 -- the sum, and the credits, of every history; the table always fits
-pub record Accounts (o : Opening) (h : List Event) : Type 0 where
+pub record Accounts (o : Limits) (h : List Event) : Type 0 where
   pub total-is : (n : ℕ) → 256 ≤ n → stateOf o h .conn .total ≡ sumTo n (furthest h)
-  pub total-within : stateOf o h .conn .total ≤ stateOf o h .conn .credit
+  pub total-within : stateOf o h .conn .total ≤ stateOf o h .conn .limits .credit
   pub each-within : (id : ℕ) → furthest h id ≤ creditOf (stateOf o h) id
   pub never-120 : fits (stateOf o h .conn) (stateOf o h .table) ≡ true
 
-pub accounts : (o : Opening) (h : List Event) → AllAccepted o h → Accounts o h
+pub accounts : (o : Limits) (h : List Event) → AllAccepted o h → Accounts o h
 accounts o h a = record {
   total-is = total-is-sum o h a;
   total-within = always o h a .conn .within;

@@ -9,8 +9,8 @@ use native.Mathlib.Nat.{add-suc}
 use lib.Dec.{eqb}
 use borrow.Author.Tests.{eq-eqb, ne-eqb}
 use Rattle.answers.specs.Choice.{_⇒_∣_}
-use Rattle.streams.specs.Entry.{placeOf}
-use Rattle.streams.specs.Fits.{sumTo, allTo}
+use Rattle.halves.specs.Stream.{placeOf}
+use Rattle.limits.specs.Fits.{sumTo, allTo}
 use Rattle.accounts.proofs.Tests.{place-is}
 
 pub sum-same : (n : ℕ) (f g : ℕ → ℕ) → ((i : ℕ) → i < n → f i ≡ g i) → sumTo n f ≡ sumTo n g

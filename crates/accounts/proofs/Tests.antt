@@ -1,4 +1,4 @@
--- What tests say: connectives, the acceptance of an answer, the place of a stream and the final size of an entry.
+-- What tests say: connectives, the place of a stream and the final size of an entry.
 -- Assumes nothing.
 use Prim.Native.Nat.{ℕ, _+_, _-_, _*_, _/_, _%_, _^_, _≤_, _<_}
 use mathlib.Core.Path.{_≡_, refl, sym, _∙_, ap}
@@ -8,13 +8,10 @@ use native.Mathlib.Omega.{arith}
 use lib.Dec.{ltb, eqb}
 use borrow.Author.Tests.{lt-ltb, ne-eqb, ltb-true, eqb-true}
 use Rattle.answers.specs.Choice.{_⇒_∣_}
-use Rattle.answers.specs.Answers.{numberOf}
-use Rattle.answers.specs.declared.Answer.{Answer}
-use Rattle.answers.specs.declared.Answer.the-variants.{Accepted}
-use Rattle.answers.proofs.Numbers.{one-case}
+use Rattle.answers.proofs.Distinct.{impossible}
 use Rattle.streams.specs.declared.Final.the-variants.{Unknown, Known}
-use Rattle.streams.specs.Entry.{listed, placeOf, finalOf}
-use Rattle.streams.specs.Frames.{accepts}
+use Rattle.halves.specs.Stream.{listed, placeOf}
+use Rattle.streams.specs.Entry.{finalOf}
 
 -- ---- connectives
 
@@ -31,21 +28,11 @@ or-true true b e = inl refl
 or-true false b e = inr e
 
 pub or-false : (a b : Bool) → a || b ≡ false → (a ≡ false) × (b ≡ false)
-or-false true b e = let z : _≡_ {A = ℕ} 0 1 = cc in absurd (omega arith)
+or-false true b e = impossible cc
 or-false false b e = (refl, e)
 
 pub not-both : (b : Bool) → b ≡ true → b ≡ false → ⊥
-not-both b p q = let z : _≡_ {A = ℕ} 0 1 = cc in omega arith
-
--- ---- answers
-
-pub accepts-true : (a : Answer) → accepts a ≡ true → a ≡ Accepted
-accepts-true a e = one-case a Accepted (eqb-true (numberOf a) 0 e)
-
--- a choice that accepts, whose other side refuses, went to the first
-pub allows : (b : Bool) (x a : Answer) → 0 < numberOf a → (b ⇒ x ∣ a) ≡ Accepted → (b ≡ true) × (x ≡ Accepted)
-allows true x a l e = (refl, e)
-allows false x a l e = absurd (omega (arith, ap numberOf e))
+not-both b p q = impossible cc
 
 -- ---- streams that have an entry
 
@@ -86,4 +73,4 @@ unknown-size n e = go (eqb n (2 ^ 64 - 1)) refl e
   where
     go : (b : Bool) → eqb n (2 ^ 64 - 1) ≡ b → (b ⇒ Unknown ∣ Known n) ≡ Unknown → n ≡ 2 ^ 64 - 1
     go true p q = eqb-true n (2 ^ 64 - 1) p
-    go false p q = let z : _≡_ {A = ℕ} 0 1 = cc in absurd (omega arith)
+    go false p q = impossible cc

@@ -4,56 +4,62 @@ use mathlib.Core.Path.{_≡_}
 use mathlib.Core.Bool.{true, false}
 use mathlib.Core.List.{List, [], _∷_, map}
 use Rattle.answers.specs.Answers.{numberOf}
-use Rattle.answers.specs.declared.Answer.the-variants.{AboveCeiling}
 use Rattle.frames.specs.declared.Kind.the-variants.{Initial as Initial', Handshake as Handshake', ZeroRtt, OneRtt}
 use Rattle.frames.specs.declared.Frame.the-variants.{Ack, AckEcn, ResetStream, StopSending, Stream, MaxData, MaxStreamData, StreamDataBlocked, ConnectionClose, ApplicationClose}
 use Rattle.streams.specs.declared.Conn.{Conn}
 use Rattle.streams.specs.declared.Entry.{Entry}
+use Rattle.streams.specs.declared.Limits.{Limits}
 use Rattle.streams.specs.declared.Mark.{Mark}
 use Rattle.streams.specs.declared.Mark.the-variants.{Open, ByPeer}
-use Rattle.streams.specs.declared.Opened.the-variants.{As, Refused}
 use Rattle.streams.specs.declared.Space.the-variants.{Initial, Handshake, Application}
-use Rattle.streams.specs.declared.Summed.the-variants.{To, Unfit}
-use Rattle.streams.specs.declared.View.{View}
-use Rattle.streams.specs.declared.View.the-variants.{Ends, Blocks, Sends, Acks, Closes, Plain}
 use Rattle.streams.specs.Entry.{fresh}
+use Rattle.streams.specs.Conn.{openedOf, handedOutOf}
 use Rattle.streams.specs.Opening.{openedConn, openingOf}
-use Rattle.streams.specs.Frames.{Call, viewOf, ruledOf, connAfter, callOf}
-use Rattle.streams.specs.Frames.Call.{RaiseCredit, RaiseStream, RaiseCount, OpenNext, HandOut}
-use Rattle.streams.specs.Frames.Event.{Got}
-use Rattle.streams.specs.Fits.{entryFits, connFits, summedOf, concludedOf}
+use Rattle.rules.specs.declared.View.{View}
+use Rattle.rules.specs.declared.View.the-variants.{Ends, Blocks, ForSender, Acks, Closes, Nothing}
+use Rattle.rules.specs.View.{viewOf}
+use Rattle.rules.specs.Verdict.{verdictOf, connHeard}
+use Rattle.calls.specs.declared.Call.{Call}
+use Rattle.calls.specs.declared.Call.the-variants.{RaiseCredit, RaiseStream, RaiseCount, OpenNext}
+use Rattle.calls.specs.Calls.{repliedOf}
+use Rattle.limits.specs.declared.fits.Summed.the-variants.{To, Unfit}
+use Rattle.limits.specs.Fits.{entryFits, connFits, summedOf, concludedOf}
 
--- a connection with counts 4 and 4, stream credits 16, connection credit 40, so many streams of each type open, a next number of the last space, and a mark
+-- the connection credit, the counts of the peer's two halves, the initial credits of the three that receive
+abbrev pub limits : ℕ → ℕ → ℕ → ℕ → ℕ → ℕ → Limits
+limits credit two-way one-way peers ours single = record { credit = credit; counts = two-way ∷ one-way ∷ []; initial = peers ∷ ours ∷ single ∷ [] }
+
+-- a connection with counts 4 and 4, stream credits 16, connection credit 40, so many streams of each half open, a next number of the last space, and a mark
 abbrev pub bench : ℕ → ℕ → ℕ → ℕ → ℕ → Mark → Conn
-bench open0 open1 open2 open3 next mark = record { credit = 40; total = 0; count0 = 4; count2 = 4; open0 = open0; open1 = open1; open2 = open2; open3 = open3; init0 = 16; init1 = 16; init2 = 16; next0 = 0; next1 = 0; next2 = next; mark = mark }
+bench open0 open1 open2 open3 next mark = record { limits = limits 40 4 4 16 16 16; opened = open0 ∷ open1 ∷ open2 ∷ open3 ∷ []; total = 0; next = 0 ∷ 0 ∷ next ∷ []; mark = mark }
 
 abbrev pub entry : ℕ → ℕ → ℕ → Entry
 entry credit end size = record { credit = credit; end = end; size = size }
 
 -- the answers to some frames, each on the connection as it is and an entry with credit 16
 abbrev pub heard : Conn → List View → List ℕ
-heard c l = map (λ v. numberOf (ruledOf c (fresh 16) (Got v))) l
+heard c l = map (λ v. numberOf (verdictOf c (fresh 16) v)) l
 
 -- the answers to some local calls, on an entry
 abbrev pub called : Conn → Entry → List Call → List ℕ
-called c e l = map (λ k. numberOf (callOf c e k)) l
+called c e l = map (λ k. numberOf (repliedOf c e k .called .answer)) l
 
 pub record Borders : Type 0 where
   -- which frame asks what: each that names a stream or acknowledges, the two that close, and one that asks nothing
   pub views : map (viewOf ZeroRtt) (StopSending 8 1 ∷ MaxStreamData 8 1 ∷ StreamDataBlocked 8 1 ∷ ResetStream 8 1 5 ∷ Stream 8 2 true 0 3 ∷ ConnectionClose 1 0 0 0 ∷ ApplicationClose 1 0 0 ∷ MaxData 1 ∷ [])
-      ≡ Sends 8 ∷ Sends 8 ∷ Blocks 8 ∷ Ends 8 5 true ∷ Ends 8 5 true ∷ Closes ∷ Closes ∷ Plain ∷ []
+      ≡ ForSender 8 ∷ ForSender 8 ∷ Blocks 8 ∷ Ends 8 5 true ∷ Ends 8 5 true ∷ Closes ∷ Closes ∷ Nothing ∷ []
   -- "Three spaces: Initial, Handshake, and one for 0-RTT with 1-RTT"
   pub spaces : map (λ kind. viewOf kind (Ack 7 0 0 0 0)) (Initial' ∷ Handshake' ∷ ZeroRtt ∷ OneRtt ∷ []) ≡ Acks Initial 7 ∷ Acks Handshake 7 ∷ Acks Application 7 ∷ Acks Application 7 ∷ []
   pub spaces-ecn : map (λ kind. viewOf kind (AckEcn 7 0 0 0 0 1 2 3)) (Initial' ∷ Handshake' ∷ ZeroRtt ∷ OneRtt ∷ []) ≡ Acks Initial 7 ∷ Acks Handshake 7 ∷ Acks Application 7 ∷ Acks Application 7 ∷ []
   -- "STREAM_DATA_BLOCKED: rules 1 and 2": types 0 and 2 by their counts; type 1 by what we opened; type 3 never
   pub blocked : heard (bench 0 1 0 1 0 Open) (Blocks 12 ∷ Blocks 16 ∷ Blocks 14 ∷ Blocks 18 ∷ Blocks 1 ∷ Blocks 5 ∷ Blocks 3 ∷ []) ≡ 0 ∷ 4 ∷ 0 ∷ 4 ∷ 0 ∷ 5 ∷ 5 ∷ []
   -- "STOP_SENDING and MAX_STREAM_DATA: type 2 is 5, type 1 or 3 not opened by us is 5, then rule 2 for type 0"
-  pub sending : heard (bench 0 1 0 1 0 Open) (Sends 12 ∷ Sends 16 ∷ Sends 2 ∷ Sends 18 ∷ Sends 1 ∷ Sends 5 ∷ Sends 3 ∷ Sends 7 ∷ []) ≡ 0 ∷ 4 ∷ 5 ∷ 5 ∷ 0 ∷ 5 ∷ 0 ∷ 5 ∷ []
+  pub sending : heard (bench 0 1 0 1 0 Open) (ForSender 12 ∷ ForSender 16 ∷ ForSender 2 ∷ ForSender 18 ∷ ForSender 1 ∷ ForSender 5 ∷ ForSender 3 ∷ ForSender 7 ∷ []) ≡ 0 ∷ 4 ∷ 5 ∷ 5 ∷ 0 ∷ 5 ∷ 0 ∷ 5 ∷ []
   -- "It opens all lower ordinals of the type"; "These open too"; and a lower stream closes none
-  pub opens-ends : connAfter (bench 0 0 0 0 0 Open) (fresh 16) (Got (Ends 12 0 false)) .open0 ≡ 4
-  pub opens-blocks : connAfter (bench 0 0 0 0 0 Open) (fresh 16) (Got (Blocks 14)) .open2 ≡ 4
-  pub opens-sends : connAfter (bench 0 0 0 0 0 Open) (fresh 16) (Got (Sends 8)) .open0 ≡ 3
-  pub closes-none : connAfter (bench 4 0 0 0 0 Open) (fresh 16) (Got (Ends 0 0 false)) .open0 ≡ 4
+  pub opens-ends : openedOf (connHeard (bench 0 0 0 0 0 Open) (fresh 16) (Ends 12 0 false)) 0 ≡ 4
+  pub opens-blocks : openedOf (connHeard (bench 0 0 0 0 0 Open) (fresh 16) (Blocks 14)) 2 ≡ 4
+  pub opens-sends : openedOf (connHeard (bench 0 0 0 0 0 Open) (fresh 16) (ForSender 8)) 0 ≡ 3
+  pub closes-none : openedOf (connHeard (bench 4 0 0 0 0 Open) (fresh 16) (Ends 0 0 false)) 0 ≡ 4
   -- "An ACK of a number not yet handed out in its space is 10"
   pub acknowledged : heard (bench 0 0 0 0 1 Open) (Acks Application 0 ∷ Acks Application 1 ∷ Acks Initial 0 ∷ Acks Handshake 0 ∷ []) ≡ 0 ∷ 10 ∷ 10 ∷ 10 ∷ []
   -- 103 above the ceiling, 102 not above the present value: the connection credit ..
@@ -68,12 +74,11 @@ pub record Borders : Type 0 where
   -- "open the next type 1 or 3 stream", 64 streams a type
   pub next : called (bench 0 63 0 64 0 Open) (fresh 16) (OpenNext 0 ∷ OpenNext 1 ∷ OpenNext 2 ∷ OpenNext 3 ∷ []) ≡ 104 ∷ 0 ∷ 104 ∷ 103 ∷ []
   -- "a call hands out the next number of a space, from 0; after 2^62-1 it is 103"
-  pub last-number : called (bench 0 0 0 0 (2 ^ 62 - 1) Open) (fresh 16) (HandOut Application ∷ HandOut Initial ∷ []) ≡ 0 ∷ 0 ∷ []
-  pub no-number : called (bench 0 0 0 0 (2 ^ 62) Open) (fresh 16) (HandOut Application ∷ []) ≡ 103 ∷ []
+  pub last-number : map (λ space. numberOf (handedOutOf (bench 0 0 0 0 (2 ^ 62 - 1) Open) space .answer)) (Application ∷ Initial ∷ []) ≡ 0 ∷ 0 ∷ []
+  pub no-number : numberOf (handedOutOf (bench 0 0 0 0 (2 ^ 62) Open) Application .answer) ≡ 103
   -- opening: "64 streams a type, credit 2^62-1"
-  pub opened-most : openingOf (2 ^ 62 - 1) (2 ^ 62 - 1) (2 ^ 62 - 1) 64 64 (2 ^ 62 - 1) ≡ As (openedConn (2 ^ 62 - 1) (2 ^ 62 - 1) (2 ^ 62 - 1) 64 64 (2 ^ 62 - 1))
-  pub opened-credit : openingOf 0 0 (2 ^ 62) 64 64 0 ≡ Refused AboveCeiling
-  pub opened-count : openingOf 0 0 0 64 65 0 ≡ Refused AboveCeiling
+  pub opened-most : openingOf (limits (2 ^ 62 - 1) 64 64 (2 ^ 62 - 1) (2 ^ 62 - 1) (2 ^ 62 - 1)) .conn ≡ openedConn (limits (2 ^ 62 - 1) 64 64 (2 ^ 62 - 1) (2 ^ 62 - 1) (2 ^ 62 - 1)) Open
+  pub opened-above : map (λ l. numberOf (openingOf l .answer)) (limits 0 64 64 0 0 0 ∷ limits (2 ^ 62) 64 64 0 0 0 ∷ limits 0 65 64 0 0 0 ∷ limits 0 64 65 0 0 0 ∷ limits 0 64 64 (2 ^ 62) 0 0 ∷ limits 0 64 64 0 (2 ^ 62) 0 ∷ limits 0 64 64 0 0 (2 ^ 62) ∷ []) ≡ 0 ∷ 103 ∷ 103 ∷ 103 ∷ 103 ∷ 103 ∷ 103 ∷ []
   -- 120: "an end is above its credit"
   pub end-fits : map (entryFits (bench 1 0 0 0 0 Open) 0) (entry 16 16 (2 ^ 64 - 1) ∷ entry 16 17 (2 ^ 64 - 1) ∷ []) ≡ true ∷ false ∷ []
   -- "a known final size differs from the end"

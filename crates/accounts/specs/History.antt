@@ -1,4 +1,4 @@
--- Histories: a connection with its lent table from opening on, and what the accepted frames and local calls alone say of each stream.
+-- Histories: a connection with its lent table from opening on, and what the accepted frames and calls alone say of each stream.
 use Prim.Native.Nat.{ℕ, zero, suc, _/_, _≤_, max}
 use mathlib.Core.Path.{_≡_}
 use mathlib.Core.Bool.{Bool, true, false, _&&_, not}
@@ -12,17 +12,51 @@ use Rattle.streams.specs.declared.Conn.{Conn}
 use Rattle.streams.specs.declared.Entry.{Entry}
 use Rattle.streams.specs.declared.Final.{Final}
 use Rattle.streams.specs.declared.Final.the-variants.{Unknown, Known}
+use Rattle.streams.specs.declared.Limits.{Limits}
 use Rattle.streams.specs.declared.Mark.the-variants.{Open}
-use Rattle.streams.specs.declared.Opened.the-variants.{As}
-use Rattle.streams.specs.declared.View.the-variants.{Ends, Blocks, Sends, Acks, Closes, Plain}
-use Rattle.streams.specs.Entry.{typeOf, ordinal, listed, placeOf, fresh, entryOf}
-use Rattle.streams.specs.Conn.{isOpen, countOf}
+use Rattle.streams.specs.declared.Space.{Space}
+use Rattle.halves.specs.Stream.{streamOf, halfOf, ordinalOf, receives, mostStreams, entries, listed, placeOf}
+use Rattle.streams.specs.Entry.{fresh, entryOf}
+use Rattle.streams.specs.Conn.{isOpen, initialOf, countOf, handedOn, handedOutOf}
 use Rattle.streams.specs.Opening.{openedConn, openingOf}
-use Rattle.streams.specs.Rules.{rule1, rule2, rule3, rule4}
-use Rattle.streams.specs.Frames.{Event, streamOf, ruledOf, connAfter, entryAfter}
-use Rattle.streams.specs.Frames.Event.{Got, Did}
-use Rattle.streams.specs.Frames.Call.{RaiseCredit, RaiseStream, RaiseCount, OpenNext, HandOut}
-use Rattle.streams.specs.Fits.{sumTo, fits}
+use Rattle.rules.specs.declared.View.{View}
+use Rattle.rules.specs.declared.View.the-variants.{Ends, Blocks, ForSender, Acks, Closes, Nothing}
+use Rattle.rules.specs.View as views
+use Rattle.rules.specs.Rules.{rule1, rule2, rule3, rule4}
+use Rattle.rules.specs.Verdict.{verdictOf, connHeard, entryHeard}
+use Rattle.calls.specs.declared.Call.{Call}
+use Rattle.calls.specs.Calls as calls
+use Rattle.calls.specs.Calls.{replyOf, connCalled, entryCalled}
+use Rattle.limits.specs.Fits.{sumTo, fits}
+
+-- ---- events: what a frame asked, a local call, and a packet number handed out
+
+pub data Event : Type 0 where
+  Got : View → Event
+  Did : Call → Event
+  Gave : Space → Event
+
+-- the stream whose entry an event looks at; stream 0 for those that look at none, and leave it
+abbrev pub looksAt : Event → ℕ
+looksAt (Got view) = views.streamIn view
+looksAt (Did call) = calls.streamIn call
+looksAt (Gave space) = 0
+
+-- the answer of an open connection whose table fits, and what an accepted event leaves: as the contracts of frames and calls have it
+unfoldable pub ruledOf : Conn → Entry → Event → Answer
+ruledOf c e (Got view) = verdictOf c e view
+ruledOf c e (Did call) = replyOf c e call
+ruledOf c e (Gave space) = handedOutOf c space .answer
+
+unfoldable pub connAfter : Conn → Entry → Event → Conn
+connAfter c e (Got view) = connHeard c e view
+connAfter c e (Did call) = connCalled c call
+connAfter c e (Gave space) = handedOn c space
+
+unfoldable pub entryAfter : Entry → Event → Entry
+entryAfter e (Got view) = entryHeard e view
+entryAfter e (Did call) = entryCalled e call
+entryAfter e (Gave space) = e
 
 -- ---- a connection with its lent table
 
@@ -33,64 +67,47 @@ pub record State : Type 0 where
 -- handing out a number looks at neither the table nor the closing mark
 abbrev pub handsOut : Event → Bool
 handsOut (Got view) = false
-handsOut (Did (RaiseCredit new)) = false
-handsOut (Did (RaiseStream id new)) = false
-handsOut (Did (RaiseCount ty new)) = false
-handsOut (Did (OpenNext ty)) = false
-handsOut (Did (HandOut space)) = true
+handsOut (Did call) = false
+handsOut (Gave space) = true
 
--- 120, 101, then the rules; from opening on 120 never arises, so that it is the same whether or not a call looks at the table
+-- 120, 101, then the rules
 unfoldable pub answerOf : State → Event → Answer
 answerOf s ev =
-    handsOut ev ⇒ ruledOf (s .conn) (entryOf (s .table) (streamOf ev)) ev
+    handsOut ev ⇒ ruledOf (s .conn) (entryOf (s .table) (looksAt ev)) ev
     ∣ not (fits (s .conn) (s .table)) ⇒ DoesNotFit
     ∣ not (isOpen (s .conn .mark)) ⇒ Closed
-    ∣ ruledOf (s .conn) (entryOf (s .table) (streamOf ev)) ev
+    ∣ ruledOf (s .conn) (entryOf (s .table) (looksAt ev)) ev
 
--- the state after an accepted frame or call: at most the entry of its stream has changed
+-- the state after an accepted event: at most the entry of its stream has changed
 unfoldable pub after : State → Event → State
 after s ev = record {
-  conn = connAfter (s .conn) (entryOf (s .table) (streamOf ev)) ev;
-  table = set (s .table) (placeOf (streamOf ev)) (entryAfter (entryOf (s .table) (streamOf ev)) ev);
+  conn = connAfter (s .conn) (entryOf (s .table) (looksAt ev)) ev;
+  table = set (s .table) (placeOf (looksAt ev)) (entryAfter (entryOf (s .table) (looksAt ev)) ev);
 }
 
 -- ---- opening
-
--- what a connection is opened with: the initial stream credits of types 0, 1 and 2, the counts of types 0 and 2, and the connection credit
-pub record Opening : Type 0 where
-  pub init0 : ℕ
-  pub init1 : ℕ
-  pub init2 : ℕ
-  pub count0 : ℕ
-  pub count2 : ℕ
-  pub credit : ℕ
 
 -- f 0, .., f (n - 1)
 unfoldable pub listTo : {A : Type 0} → ℕ → (ℕ → A) → List A
 listTo zero f = []
 listTo (suc n) f = f 0 ∷ listTo n (λ i. f (suc i))
 
-abbrev pub initialOf : Opening → ℕ → ℕ
-initialOf o zero = o .init0
-initialOf o (suc zero) = o .init1
-initialOf o (suc (suc n)) = o .init2
-
 -- "Opening a connection sets every entry to its type's initial credit, end 0, no final size"
-unfoldable pub opened : Opening → State
-opened o = record { conn = openedConn (o .init0) (o .init1) (o .init2) (o .count0) (o .count2) (o .credit); table = listTo 192 (λ i. fresh (initialOf o (i / 64))) }
+unfoldable pub opened : Limits → State
+opened o = record { conn = openedConn o Open; table = listTo entries (λ i. fresh (initialOf o (i / mostStreams))) }
 
--- opening was accepted, and this is its connection
-abbrev pub WasOpened : Opening → Type 0
-WasOpened o = openingOf (o .init0) (o .init1) (o .init2) (o .count0) (o .count2) (o .credit) ≡ As (opened o .conn)
+-- opening with these limits is accepted
+abbrev pub WasOpened : Limits → Type 0
+WasOpened o = openingOf o .answer ≡ Accepted
 
 -- ---- histories, the latest event first
 
-unfoldable pub stateOf : Opening → List Event → State
+unfoldable pub stateOf : Limits → List Event → State
 stateOf o [] = opened o
 stateOf o (ev ∷ h) = after (stateOf o h) ev
 
 -- opening and each event were accepted
-unfoldable pub AllAccepted : Opening → List Event → Type 0
+unfoldable pub AllAccepted : Limits → List Event → Type 0
 AllAccepted o [] = WasOpened o
 AllAccepted o (ev ∷ h) = AllAccepted o h × (answerOf (stateOf o h) ev ≡ Accepted)
 
@@ -110,15 +127,12 @@ unfoldable pub own : List Event → ℕ → List End
 own [] id = []
 own (Got (Ends n end fin) ∷ h) id = added (eqb n id) (record { end = end; fin = fin }) (own h id)
 own (Got (Blocks n) ∷ h) id = own h id
-own (Got (Sends n) ∷ h) id = own h id
+own (Got (ForSender n) ∷ h) id = own h id
 own (Got (Acks space largest) ∷ h) id = own h id
 own (Got Closes ∷ h) id = own h id
-own (Got Plain ∷ h) id = own h id
-own (Did (RaiseCredit new) ∷ h) id = own h id
-own (Did (RaiseStream n new) ∷ h) id = own h id
-own (Did (RaiseCount ty new) ∷ h) id = own h id
-own (Did (OpenNext ty) ∷ h) id = own h id
-own (Did (HandOut space) ∷ h) id = own h id
+own (Got Nothing ∷ h) id = own h id
+own (Did call ∷ h) id = own h id
+own (Gave space ∷ h) id = own h id
 
 -- the furthest of some ends, and the one that was named as final
 unfoldable pub furthestOf : List End → ℕ
@@ -139,25 +153,19 @@ furthest h id = furthestOf (own h id)
 unfoldable pub creditOf : State → ℕ → ℕ
 creditOf s id = listed id ⇒ entryOf (s .table) id .credit ∣ 0
 
--- the streams on which the peer may send: types 0 and 2 below their counts, type 1 opened by us
+-- the streams on which the peer may send: its own below their counts, and our two-way streams that are open
 unfoldable pub maySend : Conn → ℕ → Bool
-maySend c id = not (eqb (typeOf id) 3) && ltb (ordinal id) (countOf c (typeOf id))
+maySend c id = receives (halfOf id) && ltb (ordinalOf id) (countOf c (halfOf id))
 
--- the sum of their credits, ended ones included; the IDs below 256 are the ordinals 0 to 63 of each type
+-- the sum of their credits, ended ones included; the IDs below 256 are the ordinals 0 to 63 of each half
 unfoldable pub granted : State → ℕ
 granted s = sumTo 256 (λ id. maySend (s .conn) id ⇒ creditOf s id ∣ 0)
 
--- a history of accepted events that left the connection open, and with enough credit for all
-pub record Running (o : Opening) (h : List Event) : Type 0 where
-  pub accepted : AllAccepted o h
-  pub still-open : stateOf o h .conn .mark ≡ Open
-  pub enough : granted (stateOf o h) ≤ stateOf o h .conn .credit
-
--- rules 1 to 4 for a STREAM or RESET_STREAM frame, by the stream count of its type, the stream's credit and its own accepted frames: no other stream is looked at
+-- rules 1 to 4 for a STREAM or RESET_STREAM frame, by the stream count of its half, the stream's credit and its own accepted frames: no other stream is looked at
 unfoldable pub ruling : ℕ → ℕ → List End → ℕ → ℕ → Bool → Answer
 ruling count credit l id end fin =
-    rule1 count id ⇒ StreamState
-    ∣ rule2 count id ⇒ StreamLimit
+    rule1 count (streamOf id) ⇒ StreamState
+    ∣ rule2 count (streamOf id) ⇒ StreamLimit
     ∣ rule3 (finalNamed l) (furthestOf l) end fin ⇒ FinalSize
     ∣ rule4 credit end ⇒ FlowControl
     ∣ Accepted

@@ -15,3 +15,8 @@ holds P false x y p q = q refl
 -- by which of two numbers is below
 pub below-or-not {ℓ} : {G : Type ℓ} (a b : ℕ) → (a < b → G) → (b ≤ a → G) → G
 below-or-not {G} a b p q = holds (λ (t : Bool). G) (ltb a b) true false (λ e. p (ltb-true a b e)) (λ e. q (ltb-false a b e))
+
+-- a function of a choice is the choice of its values
+pub through {ℓ κ} : {A : Type ℓ} {B : Type κ} (f : A → B) (b : Bool) (x y : A) → f (b ⇒ x ∣ y) ≡ (b ⇒ f x ∣ f y)
+through f true x y = refl
+through f false x y = refl

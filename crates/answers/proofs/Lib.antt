@@ -1,3 +1,4 @@
+pub mod Accepts
 pub mod Choice
 pub mod Distinct
 pub mod Firm

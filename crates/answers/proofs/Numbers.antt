@@ -51,7 +51,7 @@ pub one-case : (a b : Answer) → numberOf a ≡ numberOf b → a ≡ b
 one-case a b e = sym (again a) ∙ ap (first cases) e ∙ again b
 
 -- the tags of all answers but `Accepted`: where a match has told one of these apart, the answer is not `Accepted`, whose tag is 0
-abbrev others : List ℕ
+abbrev pub others : List ℕ
 others = 1 ∷ 2 ∷ 3 ∷ 4 ∷ 5 ∷ 6 ∷ 7 ∷ 8 ∷ 9 ∷ 10 ∷ 11 ∷ 12 ∷ 13 ∷ 14 ∷ 15 ∷ 16 ∷ 17 ∷ 18 ∷ 19 ∷ 20 ∷ []
 
 pub other : OneOf others 0 → ⊥

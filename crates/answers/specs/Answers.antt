@@ -1,5 +1,7 @@
 -- The numbers of the answers, document 01, "Answer numbers": the one place where they stand.
 use Prim.Native.Nat.{ℕ}
+use mathlib.Core.Bool.{Bool}
+use lib.Dec.{eqb}
 use Rattle.answers.specs.declared.Answer.{Answer}
 use Rattle.answers.specs.declared.Answer.the-variants.{Accepted, Done, FlowControl, StreamLimit, StreamState, FinalSize, FrameEncoding, ProtocolViolation, Closed, NotAbove, AboveCeiling, NotServed, SizeKnown, BelowRecord, InRecord, NoRoom, Unwritable, NoPacket, NoSuchNumber, NothingToAcknowledge, DoesNotFit}
 
@@ -40,3 +42,7 @@ numberOf NoSuchNumber = 111
 numberOf NothingToAcknowledge = 112
 -- table or record that does not fit
 numberOf DoesNotFit = 120
+
+-- whether an answer accepts
+abbrev pub accepts : Answer → Bool
+accepts answer = eqb (numberOf answer) 0

@@ -15,10 +15,10 @@ use Rattle.wire.specs.declared.Wrote.the-variants.{To, Refused}
 use Rattle.wire.proofs.Standing.{sets-append}
 use Rattle.wire.proofs.Writing.{all-written, bytes-written, bytes-unrefused}
 use Rattle.text.specs.Decimal.{digitsOf, decimalOf}
-use Rattle.columns.specs.Row.{fieldOf, typeOf, shownOf, rowOf}
+use Rattle.columns.specs.Row.{fieldOf, typeText, typeField, rowOf}
 use Rattle.columns.specs.Row.{closedText}
-use Rattle.columns.specs.declared.Shown.{Shown}
-use Rattle.columns.specs.declared.Shown.the-variants.{Is, Unread}
+use Rattle.columns.specs.declared.FrameType.{FrameType}
+use Rattle.columns.specs.declared.FrameType.the-variants.{Is, Unread}
 
 digits-size : (k n : ℕ) → length (digitsOf k n) ≤ k
 unfolding digitsOf
@@ -40,17 +40,17 @@ field-size : (n behind : ℕ) → length (fieldOf n behind) ≤ 21
 field-size n behind = omega (arith, field-length n behind, decimal-size n)
 
 -- a type is a field like a number, or a dash and a blank
-pub shown-number : (ty : ℕ) → shownOf (Is ty) ≡ fieldOf ty 32
-unfolding shownOf typeOf fieldOf
-shown-number ty = refl
+pub type-number : (ty : ℕ) → typeField (Is ty) ≡ fieldOf ty 32
+unfolding typeField typeText fieldOf
+type-number ty = refl
 
-pub shown-dash : shownOf Unread ≡ 45 ∷ 32 ∷ []
-unfolding shownOf typeOf
-shown-dash = refl
+pub type-dash : typeField Unread ≡ 45 ∷ 32 ∷ []
+unfolding typeField typeText
+type-dash = refl
 
-shown-size : (ty : Shown) → length (shownOf ty) ≤ 21
-shown-size (Is ty) = rw shown-number (field-size ty 32)
-shown-size Unread = rw shown-dash (omega arith)
+type-size : (ty : FrameType) → length (typeField ty) ≤ 21
+type-size (Is ty) = rw type-number (field-size ty 32)
+type-size Unread = rw type-dash (omega arith)
 
 -- where there is room for the longest field, a number is written, and the byte behind it makes it a field
 module _ (line : List ℕ) (at n : ℕ) (room : at + 21 ≤ length line) {r : Wrote} {after : List ℕ} (e : (r, after) ≡ writes (Bytes (decimalOf n)) line at) where
@@ -100,9 +100,9 @@ module _ {blank l : List ℕ} {k to : ℕ} {line : List ℕ} (b : Begun blank l 
   front h = rw (b .ends, b .holds, sets-eq l blank 0 (omega (arith, b .short))) (take-append-seam l _)
 
 -- the four fields of a row, one after the other on a line with room for the longest: each has room, and together they are the row
-module _ (place : ℕ) (ty : Shown) (code total : ℕ) where
-  row-fields : ((fieldOf place 32 ++ shownOf ty) ++ fieldOf code 32) ++ fieldOf total 10 ≡ rowOf place ty code total
-  unfolding fieldOf shownOf rowOf
+module _ (place : ℕ) (ty : FrameType) (code total : ℕ) where
+  row-fields : ((fieldOf place 32 ++ typeField ty) ++ fieldOf code 32) ++ fieldOf total 10 ≡ rowOf place ty code total
+  unfolding fieldOf typeField rowOf
   row-fields = simp append-assoc
 
   module _ {a : ℕ} {la : List ℕ} (ea : (a ≡ 0 + length (fieldOf place 32)) × (la ≡ sets (replicate 84 0) 0 (fieldOf place 32))) where
@@ -112,22 +112,22 @@ module _ (place : ℕ) (ty : Shown) (code total : ℕ) where
     pub room-for-type : a + 21 ≤ length la
     room-for-type = room with-place (omega arith)
 
-    module _ {b : ℕ} {lb : List ℕ} (eb : (b ≡ a + length (shownOf ty)) × (lb ≡ sets la a (shownOf ty))) where
-      with-type : Begun (replicate 84 0) (fieldOf place 32 ++ shownOf ty) 42 b lb
-      with-type = more with-place (shownOf ty) (shown-size ty) eb
+    module _ {b : ℕ} {lb : List ℕ} (eb : (b ≡ a + length (typeField ty)) × (lb ≡ sets la a (typeField ty))) where
+      with-type : Begun (replicate 84 0) (fieldOf place 32 ++ typeField ty) 42 b lb
+      with-type = more with-place (typeField ty) (type-size ty) eb
 
       pub room-for-code : b + 21 ≤ length lb
       room-for-code = room with-type (omega arith)
 
       module _ {d : ℕ} {ld : List ℕ} (ed : (d ≡ b + length (fieldOf code 32)) × (ld ≡ sets lb b (fieldOf code 32))) where
-        with-code : Begun (replicate 84 0) ((fieldOf place 32 ++ shownOf ty) ++ fieldOf code 32) 63 d ld
+        with-code : Begun (replicate 84 0) ((fieldOf place 32 ++ typeField ty) ++ fieldOf code 32) 63 d ld
         with-code = more with-type (fieldOf code 32) (field-size code 32) ed
 
         pub room-for-total : d + 21 ≤ length ld
         room-for-total = room with-code (omega arith)
 
         module _ {e : ℕ} {le : List ℕ} (ee : (e ≡ d + length (fieldOf total 10)) × (le ≡ sets ld d (fieldOf total 10))) where
-          whole : Begun (replicate 84 0) (((fieldOf place 32 ++ shownOf ty) ++ fieldOf code 32) ++ fieldOf total 10) 84 e le
+          whole : Begun (replicate 84 0) (((fieldOf place 32 ++ typeField ty) ++ fieldOf code 32) ++ fieldOf total 10) 84 e le
           whole = more with-code (fieldOf total 10) (field-size total 10) ee
 
           pub row-within : e ≤ length le

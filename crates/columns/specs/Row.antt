@@ -2,24 +2,24 @@
 use Prim.Native.Nat.{ℕ}
 use mathlib.Core.List.{List, [], _∷_, _++_}
 use Rattle.text.specs.Decimal.{decimalOf}
-use Rattle.columns.specs.declared.Shown.{Shown}
-use Rattle.columns.specs.declared.Shown.the-variants.{Is, Unread}
+use Rattle.columns.specs.declared.FrameType.{FrameType}
+use Rattle.columns.specs.declared.FrameType.the-variants.{Is, Unread}
 
 -- a number and the byte behind it
 unfoldable pub fieldOf : ℕ → ℕ → List ℕ
 fieldOf n behind = decimalOf n ++ (behind ∷ [])
 
 -- a type
-unfoldable pub typeOf : Shown → List ℕ
-typeOf (Is ty) = decimalOf ty
-typeOf Unread = 45 ∷ []
+unfoldable pub typeText : FrameType → List ℕ
+typeText (Is ty) = decimalOf ty
+typeText Unread = 45 ∷ []
 
 -- a type and the blank behind it
-unfoldable pub shownOf : Shown → List ℕ
-shownOf ty = typeOf ty ++ (32 ∷ [])
+unfoldable pub typeField : FrameType → List ℕ
+typeField ty = typeText ty ++ (32 ∷ [])
 
-unfoldable pub rowOf : ℕ → Shown → ℕ → ℕ → List ℕ
-rowOf place ty code total = decimalOf place ++ (32 ∷ typeOf ty ++ (32 ∷ decimalOf code ++ (32 ∷ decimalOf total ++ (10 ∷ []))))
+unfoldable pub rowOf : ℕ → FrameType → ℕ → ℕ → List ℕ
+rowOf place ty code total = decimalOf place ++ (32 ∷ typeText ty ++ (32 ∷ decimalOf code ++ (32 ∷ decimalOf total ++ (10 ∷ []))))
 
 -- "closed ", before a code
 unfoldable pub closedText : List ℕ

@@ -5,13 +5,13 @@ ghost use Prim.Native.Nat.{_+_, _≤_};
 ghost use lib.ListN.{length};
 ghost use lib.Seq.{sets};
 ghost use Rattle.wire.specs.Writing.{Bytes, writes};
-ghost use Rattle.columns.specs.Row.{fieldOf, shownOf, rowOf, closedText};
+ghost use Rattle.columns.specs.Row.{fieldOf, typeField, rowOf, closedText};
 use text::decimal;
 use text::put;
 use wire::Wrote;
 
 // A frame's type, or that it could not be read.
-pub enum Shown {
+pub enum FrameType {
     Is { ty: u64 },
     Unread,
 }
@@ -32,13 +32,13 @@ fn field(line: &mut [u8], at: usize, n: u64, behind: u8) -> usize
 }
 
 // Writes a type and the blank behind it, likewise.
-fn shown_type(line: &mut [u8], at: usize, ty: Shown) -> usize
+fn type_field(line: &mut [u8], at: usize, ty: FrameType) -> usize
     requires { ⌜ at + 21 ≤ length (now line) ⌝ }
-    ensures { λ r. ⌜ (r ≡ at + length (shownOf ty)) × (now (line .exit) ≡ sets (now (line .entry)) at (shownOf ty)) ⌝ }
+    ensures { λ r. ⌜ (r ≡ at + length (typeField ty)) × (now (line .exit) ≡ sets (now (line .entry)) at (typeField ty)) ⌝ }
 {
     match ty {
-        Shown::Is { ty } => field(line, at, ty, b' '),
-        Shown::Unread => {
+        FrameType::Is { ty } => field(line, at, ty, b' '),
+        FrameType::Unread => {
             line[at] = b'-';
             line[at + 1] = b' ';
             at + 2
@@ -47,12 +47,12 @@ fn shown_type(line: &mut [u8], at: usize, ty: Shown) -> usize
 }
 
 // Writes a row at a place. A refusal leaves the output untouched.
-pub fn row(out: &mut [u8], at: usize, place: usize, ty: Shown, code: u64, total: u64) -> Wrote
+pub fn row(out: &mut [u8], at: usize, place: usize, ty: FrameType, code: u64, total: u64) -> Wrote
     ensures { λ r. ⌜ (r, now (out .exit)) ≡ writes (Bytes (rowOf place ty code total)) (now (out .entry)) at ⌝ }
 {
     let mut line = [0u8; MOST];
     let after_place = field(&mut line, 0, place as u64, b' ');
-    let after_type = shown_type(&mut line, after_place, ty);
+    let after_type = type_field(&mut line, after_place, ty);
     let after_code = field(&mut line, after_type, code, b' ');
     let end = field(&mut line, after_code, total, b'\n');
     put::bytes(out, at, &line[..end])

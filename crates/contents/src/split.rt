@@ -1,8 +1,8 @@
 // A frame taken apart: the type under which it is written, its numbers and its places.
 ghost use mathlib.Core.Path.{_≡_};
 ghost use Rattle.contents.specs.Parts.{streamType, wayType, plainParts, holdingParts, partsOf};
-use frames::Frame;
 use fields::Parts;
+use frames::Frame;
 
 // STREAM with LEN always, and with OFF exactly when the offset is not 0.
 fn stream_type(offset: u64, fin: bool) -> u64

@@ -21,15 +21,16 @@ use Rattle.records.specs.declared.Record.{Record}
 use Rattle.records.specs.Marks.{recorded, testOf}
 use Rattle.streams.specs.declared.Conn.{Conn}
 use Rattle.streams.specs.Conn.{isOpen}
-use Rattle.streams.specs.Frames.{spaceOf, accepts}
+use Rattle.streams.specs.Conn.{spaceOf}
+use Rattle.answers.specs.Answers.{accepts}
 use Rattle.accounts.proofs.Tests.{not-both}
-use Rattle.packets.specs.First.{toldOf, sizeIn, reservedOf}
+use Rattle.packets.specs.First.{headerOf, sizeIn, reservedOf}
 use Rattle.packets.specs.Spaces.{recordOf, recordsFit}
-use Rattle.packets.specs.Begin.{leftOf, closesOf, numberedOf, withRecovered, inSpaceOf, withKind, beginOf}
+use Rattle.packets.specs.Begin.{refusedOf, closesOf, testedOf, withRecovered, inSpaceOf, withKind, beginOf}
 use Rattle.packets.specs.declared.Begun.{Begun}
 use Rattle.packets.specs.declared.Records.{Records}
-use Rattle.packets.specs.declared.Told.{Told}
-use Rattle.packets.specs.declared.Told.the-variants as Told'
+use Rattle.packets.specs.declared.Header.{Header}
+use Rattle.packets.specs.declared.Header.the-variants as Header'
 
 -- an answer that neither accepts nor closes; and it is 120 only where something does not fit
 pub record Quiet (whole : Bool) (answer : Answer) : Type 0 where
@@ -41,7 +42,7 @@ pub record Quiet (whole : Bool) (answer : Answer) : Type 0 where
 pub data Begins (c : Conn) (end : ℕ) (live whole : Bool) : Begun → Type 0 where
   goes : (kind : Kind) (at number : ℕ) → live ≡ true → Begins c end live whole (record { answer = Accepted; conn = c; kind = kind; at = at; number = number })
   closes : live ≡ true → Begins c end live whole (closesOf c end)
-  stays : (answer : Answer) → Quiet whole answer → Begins c end live whole (leftOf c answer end)
+  stays : (answer : Answer) → Quiet whole answer → Begins c end live whole (refusedOf c answer end)
 
 -- what a number that was tested can be answered
 record Tested (answer : Answer) : Type 0 where
@@ -54,17 +55,17 @@ tested R n =
     holds Tested (ltb (n + 8192) (R .top)) BelowRecord _ (λ e. record { leaves = refl; fitting = refl }) (λ e.
     holds Tested (recorded R n) InRecord Accepted (λ f. record { leaves = refl; fitting = refl }) (λ f. record { leaves = refl; fitting = refl }))
 
-with-kind : (P : Begun → Type 0) (m : Told) (x : Begun) (k : Kind → Begun) → P x → ((kind : Kind) → P (k kind)) → P (withKind m x k)
-with-kind P (Told'.Carries kind) x k p q = q kind
-with-kind P Told'.NoPacket x k p q = p
+with-kind : (P : Begun → Type 0) (m : Header) (x : Begun) (k : Kind → Begun) → P x → ((kind : Kind) → P (k kind)) → P (withKind m x k)
+with-kind P (Header'.Carries kind) x k p q = q kind
+with-kind P Header'.NoPacket x k p q = p
 
 both : (a b : Bool) → a && b ≡ true → a ≡ true
 both true b e = refl
 both false b e = e
 
 module _ (c : Conn) (live whole : Bool) (l : live ≡ true) where
-  numbered : (test : Answer) (kind : Kind) (number first n end : ℕ) → Tested test → Begins c end live whole (numberedOf c test kind number first n end)
-  unfolding numberedOf
+  numbered : (test : Answer) (kind : Kind) (number first n end : ℕ) → Tested test → Begins c end live whole (testedOf c test kind number first n end)
+  unfolding testedOf
   numbered test kind number first n end t =
       holds (Begins c end live whole) (not (accepts test)) _ _ (λ e. stays test (record { refuses = not-true _ e; leaves = t .leaves; fitting = λ f. t .fitting })) (λ e.
       holds (Begins c end live whole) (reservedOf first) _ _ (λ r. closes l) (λ r.
@@ -74,7 +75,7 @@ module _ (c : Conn) (live whole : Bool) (l : live ≡ true) where
   unfolding inSpaceOf recoveredOf
   in-space R kind first s =
       holds (Begins c (length s) live whole) (ltb (length s) (bytesIn (sizeIn first))) _ _ (λ e. stays NoPacket (record { refuses = refl; leaves = refl; fitting = λ f. refl })) (λ e.
-      holds (λ (r : Recovered). Begins c (length s) live whole (withRecovered r (λ answer. leftOf c answer (length s)) (λ number. numberedOf c (testOf R number) kind number first (bytesIn (sizeIn first)) (length s))))
+      holds (λ (r : Recovered). Begins c (length s) live whole (withRecovered r (λ answer. refusedOf c answer (length s)) (λ number. testedOf c (testOf R number) kind number first (bytesIn (sizeIn first)) (length s))))
       (ltb (nearestOf (R .top) (windowOf (sizeIn first)) (bigEndian s 0 (bytesIn (sizeIn first)))) (2 ^ 62)) (Recovered'.Is _) (Recovered'.Refused NoSuchNumber)
       (λ b. numbered _ kind _ first _ (length s) (tested R _)) (λ b. stays NoSuchNumber (record { refuses = refl; leaves = refl; fitting = λ f. refl })))
 
@@ -85,6 +86,6 @@ begins c rs fit first s =
     (λ e. stays DoesNotFit (record { refuses = refl; leaves = refl; fitting = λ f. absurd (not-both _ f (not-true _ e)) })) (λ e.
     holds (Begins c (length s) (fit && isOpen (c .mark)) (fit && recordsFit rs)) (not (isOpen (c .mark))) _ _
     (λ u. stays Closed (record { refuses = refl; leaves = refl; fitting = λ f. refl })) (λ u.
-    with-kind (Begins c (length s) (fit && isOpen (c .mark)) (fit && recordsFit rs)) (toldOf first) _ _
+    with-kind (Begins c (length s) (fit && isOpen (c .mark)) (fit && recordsFit rs)) (headerOf first) _ _
     (stays NoPacket (record { refuses = refl; leaves = refl; fitting = λ f. refl })) (λ kind.
     in-space c (fit && isOpen (c .mark)) (fit && recordsFit rs) (rw (both fit (recordsFit rs) (not-false _ e), not-false (isOpen (c .mark)) u)) (recordOf rs (spaceOf kind)) kind first s)))

@@ -14,22 +14,25 @@ use Rattle.numbers.specs.Numbers.{nearestOf, recoveredOf}
 use Rattle.ring.specs.Bits.{bit, bitAt, unmarked}
 use Rattle.records.specs.Marks.{recorded, noneOf, testOf, soundOf}
 use Rattle.records.specs.Ring.{wordOf, listOf, slotOf, ringOf, withMark, takenOf}
-use Rattle.streams.specs.Entry.{listed, placeOf, finalOf, reached}
-use Rattle.streams.specs.Conn.{upTo, openTo, markedAs}
-use Rattle.streams.specs.Opening.{openedConn, openingOf}
-use Rattle.streams.specs.Rules.{rule1, rule2, rule3, rule4, rule5, endsOf}
-use Rattle.streams.specs.Frames.{endOf, ruledOf, connAfter, entryAfter, settledOf, judgedOf}
-use Rattle.streams.specs.Fits.{isFresh, entryFitsAs, limitsFit, countsFit, connFits, sumTo, allTo, fits}
-use Rattle.taking.specs.Step.{askedOf, askedAt, turnOf}
-use Rattle.taking.specs.Local.{gateOf, openingWhen}
+use Rattle.halves.specs.Stream.{idOf, listed, placeOf}
+use Rattle.streams.specs.Entry.{finalOf, reached}
+use Rattle.streams.specs.Conn.{countOf}
+use Rattle.streams.specs.Opening.{limitsFit, openingOf}
+use Rattle.rules.specs.Rules.{rule1, rule2, rule3, rule4, rule5, endsOf}
+use Rattle.rules.specs.View.{endOf}
+use Rattle.rules.specs.Verdict.{verdictOf, connHeard, entryHeard, settledOf, judgedOf}
+use Rattle.limits.specs.Fits.{isFresh, entryFitsAs, openFit, connFits, sumTo, allTo, fits}
+use Rattle.steps.specs.Gate.{gateOf}
+use Rattle.steps.specs.Opening.{openingWhen, entriesOf}
+use Rattle.steps.specs.Step.{requestOf, requestAt, decidedOf}
 use Rattle.receive.specs.Table.{filledTo, openedTable}
-use Rattle.receive.specs.Walk.{turnAt}
+use Rattle.receive.specs.Walk.{decidedAt}
 use Rattle.receive.specs.Taking.{tookFrameOf, frameTable}
 use Rattle.demands.specs.Hosts.{hosted}
 use Rattle.demands.specs.Bench.{taken, Bench}
 
 pub bench : Bench
-unfolding numberAt fieldAt valuesIn bigEndian shortest sizeOf formOf layouts layoutOf known admitted numbersAt optionalAt sizedAt countedAt rangedAt faultOf aboveOf frameOf endedAt partsAt fieldsAt headAt frameAt nearestOf recoveredOf bit bitAt recorded noneOf testOf unmarked soundOf wordOf listOf slotOf ringOf withMark takenOf listed placeOf finalOf reached upTo openTo markedAs openedConn openingOf rule1 rule2 rule3 rule4 rule5 endsOf endOf ruledOf connAfter entryAfter settledOf judgedOf isFresh entryFitsAs limitsFit countsFit connFits sumTo allTo fits askedOf askedAt turnOf gateOf openingWhen filledTo openedTable turnAt tookFrameOf frameTable hosted taken
+unfolding numberAt fieldAt valuesIn bigEndian shortest sizeOf formOf layouts layoutOf known admitted numbersAt optionalAt sizedAt countedAt rangedAt faultOf aboveOf frameOf endedAt partsAt fieldsAt headAt frameAt nearestOf recoveredOf bit bitAt recorded noneOf testOf unmarked soundOf wordOf listOf slotOf ringOf withMark takenOf idOf listed placeOf finalOf reached countOf limitsFit openingOf rule1 rule2 rule3 rule4 rule5 endsOf endOf verdictOf connHeard entryHeard settledOf judgedOf isFresh entryFitsAs openFit connFits sumTo allTo fits gateOf openingWhen entriesOf requestOf requestAt decidedOf filledTo openedTable decidedAt tookFrameOf frameTable hosted taken
 bench = record {
   c1 = refl;
   c2 = refl;

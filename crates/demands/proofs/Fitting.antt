@@ -23,41 +23,45 @@ use Rattle.records.proofs.Taking.{can-be, leaves, still-fits}
 use Rattle.streams.specs.declared.Conn.{Conn}
 use Rattle.streams.specs.declared.Entry.{Entry}
 use Rattle.streams.specs.declared.Called.{Called}
-use Rattle.streams.specs.declared.Judged.{Judged}
-use Rattle.streams.specs.declared.Numbered.{Numbered}
+use Rattle.rules.specs.declared.Judged.{Judged}
 use Rattle.streams.specs.declared.Mark.{Mark}
 use Rattle.streams.specs.declared.Space.{Space}
 use Rattle.streams.specs.declared.Space.the-variants.{Initial, Handshake, Application}
-use Rattle.streams.specs.declared.View.{View}
-use Rattle.streams.specs.declared.View.the-variants.{Ends, Blocks, Sends, Acks, Closes, Plain}
-use Rattle.streams.specs.Entry.{typeOf, ordinal, mostStreams, mostCredit, finalOf, fresh, entryOf}
-use Rattle.streams.specs.Conn.{isOpen, openedOf, countOf}
-use Rattle.streams.specs.Rules.{rule1, rule2, rule3, rule4, rule5, endsOf, blockedOf, sendingOf}
-use Rattle.streams.specs.Calls.{nextOf, isKnown, raiseOf, raiseStreamOf, raiseCountOf, openNextOf, handOutOf}
-use Rattle.streams.specs.Frames as local
-use Rattle.streams.specs.Frames.{Call, Event, spaceOf, ruledOf, accepts, settledOf, judgedOf, callOf, raisedOf, leftOf, calledOf, openedNextOf, handedOutOf}
-use Rattle.streams.specs.Frames.Event.{Got as Heard, Did}
-use Rattle.streams.specs.Fits.{fits}
-use Rattle.accounts.specs.History.{Opening}
-use Rattle.accounts.proofs.Tests.{not-both, accepts-true}
-use Rattle.taking.specs.declared.Asked.{Asked}
+use Rattle.rules.specs.declared.View.{View}
+use Rattle.rules.specs.declared.View.the-variants.{Ends, Blocks, ForSender, Acks, Closes, Nothing}
+use Rattle.halves.specs.Stream.{streamOf, halfOf, ordinalOf, peers, receives, sends, mostStreams}
+use Rattle.streams.specs.Entry.{mostCredit, finalOf, isKnown, entryAt}
+use Rattle.streams.specs.Conn.{isOpen, openedOf, countOf, nextOf, handedOutOf, spaceOf}
+use Rattle.rules.specs.Rules.{rule1, rule2, rule3, rule4, rule5, endsOf, blockedOf, forSenderOf}
+use Rattle.rules.specs.Verdict.{verdictOf, settledOf, judgedOf}
+use Rattle.calls.specs.declared.Call.{Call}
+use Rattle.calls.specs.declared.Call.the-variants.{RaiseCredit, RaiseStream, RaiseCount, OpenNext}
+use Rattle.calls.specs.declared.Replied.{Replied}
+use Rattle.calls.specs.Calls as calls
+use Rattle.calls.specs.Calls.{raiseOf, peersType, oursType, replyOf, ruledOf, repliedOf}
+use Rattle.answers.specs.Answers.{accepts}
+use Rattle.limits.specs.Fits.{fits}
+use Rattle.streams.specs.declared.Limits.{Limits}
+use Rattle.accounts.proofs.Tests.{not-both}
+use Rattle.answers.proofs.Accepts.{accepts-true}
+use Rattle.steps.specs.declared.Request.{Request}
 use Rattle.packets.specs.declared.Begun.{Begun}
 use Rattle.packets.specs.declared.Records.{Records}
 use Rattle.packets.specs.declared.Stopped.{Stopped}
 use Rattle.packets.specs.declared.Took.{Took}
-use Rattle.taking.specs.declared.TookFrame.{TookFrame}
-use Rattle.taking.specs.declared.Gate.{Gate}
-use Rattle.taking.specs.declared.Turned.{Turned}
+use Rattle.steps.specs.declared.TookFrame.{TookFrame}
+use Rattle.steps.specs.declared.Gate.{Gate}
+use Rattle.steps.specs.declared.Decided.{Decided}
 use Rattle.packets.specs.Spaces.{recordsFit, recordedOf}
-use Rattle.taking.specs.Step.{askedOf, askedAt, turnOf}
+use Rattle.steps.specs.Step.{requestOf, requestAt, decidedOf}
 use Rattle.packets.specs.Begin as begin
 use Rattle.packets.specs.Finish.{finishOf}
-use Rattle.taking.specs.Local.{gateOf, calledWhen, openedNextWhen}
-use Rattle.receive.specs.Table.{raisedStream}
-use Rattle.receive.specs.Walk.{turnAt, steppedAt, stepTable, stopped, walkFrom}
+use Rattle.steps.specs.Gate.{gateOf}
+use Rattle.receive.specs.Walk.{decidedAt, steppedAt, Walked, walkFrom}
 use Rattle.receive.specs.Taking.{gateAt, tookFrameOf, begunOf, tookOf}
+use Rattle.receive.specs.Calling.{callPlace, calledAt}
 use Rattle.demands.specs.Hosts.{Host, Act, answered, acted, kept, hosted}
-use Rattle.demands.specs.Hosts.Act.{TakeFrame, TakePacket, RaiseCredit, RaiseStream, RaiseCount, OpenStream, HandOut}
+use Rattle.demands.specs.Hosts.Act.{TakeFrame, TakePacket, Make, HandOut}
 use Rattle.demands.proofs.Begins.{Begins, begins}
 use Rattle.demands.proofs.Begins.Begins.{goes, closes, stays}
 use Rattle.demands.proofs.Lifted.{IfRefused, refused-with}
@@ -69,9 +73,6 @@ pub record Fitting (answer : Answer) : Type 0 where
 -- the same of what holds an answer
 abbrev CalledFits : Called → Type 0
 CalledFits x = Fitting (x .answer)
-
-abbrev NumberedFits : Numbered → Type 0
-NumberedFits x = Fitting (x .answer)
 
 abbrev JudgedFits : Judged → Type 0
 JudgedFits x = Fitting (x .answer)
@@ -91,24 +92,33 @@ module _ (c : Conn) where
   ends : (e : Entry) (id end : ℕ) (fin : Bool) → Fitting (endsOf c e id end fin)
   unfolding endsOf
   ends e id end fin =
-      holds Fitting (rule1 (countOf c (typeOf id)) id) StreamState _ (λ t. record { not-120 = refl }) (λ t.
-      holds Fitting (rule2 (countOf c (typeOf id)) id) StreamLimit _ (λ t. record { not-120 = refl }) (λ t.
+      holds Fitting (rule1 (countOf c (halfOf id)) (streamOf id)) StreamState _ (λ t. record { not-120 = refl }) (λ t.
+      holds Fitting (rule2 (countOf c (halfOf id)) (streamOf id)) StreamLimit _ (λ t. record { not-120 = refl }) (λ t.
       holds Fitting (rule3 (finalOf (e .size)) (e .end) end fin) FinalSize _ (λ t. record { not-120 = refl }) (λ t.
       holds Fitting (rule4 (e .credit) end) FlowControl _ (λ t. record { not-120 = refl }) (λ t.
-      holds Fitting (rule5 (c .credit) (c .total) (e .end) end) FlowControl Accepted (λ t. record { not-120 = refl }) (λ t. record { not-120 = refl })))))
+      holds Fitting (rule5 (c .limits .credit) (c .total) (e .end) end) FlowControl Accepted (λ t. record { not-120 = refl }) (λ t. record { not-120 = refl })))))
 
   blocks : (id : ℕ) → Fitting (blockedOf c id)
   unfolding blockedOf
   blocks id =
-      holds Fitting (rule1 (countOf c (typeOf id)) id) StreamState _ (λ t. record { not-120 = refl }) (λ t.
-      holds Fitting (rule2 (countOf c (typeOf id)) id) StreamLimit Accepted (λ t. record { not-120 = refl }) (λ t. record { not-120 = refl }))
+      holds Fitting (rule1 (countOf c (halfOf id)) (streamOf id)) StreamState _ (λ t. record { not-120 = refl }) (λ t.
+      holds Fitting (rule2 (countOf c (halfOf id)) (streamOf id)) StreamLimit Accepted (λ t. record { not-120 = refl }) (λ t. record { not-120 = refl }))
 
-  sends : (id : ℕ) → Fitting (sendingOf c id)
-  unfolding sendingOf
-  sends id =
-      holds Fitting (eqb (typeOf id) 2) StreamState _ (λ t. record { not-120 = refl }) (λ t.
-      holds Fitting ((eqb (typeOf id) 1 || eqb (typeOf id) 3) && leb (countOf c (typeOf id)) (ordinal id)) StreamState _ (λ t. record { not-120 = refl }) (λ t.
-      holds Fitting (rule2 (countOf c (typeOf id)) id) StreamLimit Accepted (λ t. record { not-120 = refl }) (λ t. record { not-120 = refl })))
+  for-sender : (id : ℕ) → Fitting (forSenderOf c id)
+  unfolding forSenderOf
+  for-sender id =
+      holds Fitting (not (sends (halfOf id))) StreamState _ (λ t. record { not-120 = refl }) (λ t.
+      holds Fitting (not (peers (halfOf id)) && leb (countOf c (halfOf id)) (streamOf id .ordinal)) StreamState _ (λ t. record { not-120 = refl }) (λ t.
+      holds Fitting (rule2 (countOf c (halfOf id)) (streamOf id)) StreamLimit Accepted (λ t. record { not-120 = refl }) (λ t. record { not-120 = refl })))
+
+  verdict-fits : (e : Entry) (v : View) → Fitting (verdictOf c e v)
+  unfolding verdictOf
+  verdict-fits e (Ends id end fin) = ends e id end fin
+  verdict-fits e (Blocks id) = blocks id
+  verdict-fits e (ForSender id) = for-sender id
+  verdict-fits e (Acks space largest) = holds Fitting (leb (nextOf c space) largest) ProtocolViolation Accepted (λ t. record { not-120 = refl }) (λ t. record { not-120 = refl })
+  verdict-fits e Closes = record { not-120 = refl }
+  verdict-fits e Nothing = record { not-120 = refl }
 
   raises : (present new ceiling : ℕ) → Fitting (raiseOf present new ceiling)
   unfolding raiseOf
@@ -116,66 +126,59 @@ module _ (c : Conn) where
       holds Fitting (ltb ceiling new) AboveCeiling _ (λ t. record { not-120 = refl }) (λ t.
       holds Fitting (leb new present) NotAbove Accepted (λ t. record { not-120 = refl }) (λ t. record { not-120 = refl }))
 
-  ruled : (e : Entry) (ev : Event) → Fitting (ruledOf c e ev)
-  unfolding ruledOf raiseStreamOf raiseCountOf openNextOf handOutOf
-  ruled e (Heard (Ends id end fin)) = ends e id end fin
-  ruled e (Heard (Blocks id)) = blocks id
-  ruled e (Heard (Sends id)) = sends id
-  ruled e (Heard (Acks space largest)) = holds Fitting (leb (nextOf c space) largest) ProtocolViolation Accepted (λ t. record { not-120 = refl }) (λ t. record { not-120 = refl })
-  ruled e (Heard Closes) = record { not-120 = refl }
-  ruled e (Heard Plain) = record { not-120 = refl }
-  ruled e (Did (local.RaiseCredit new)) = raises (c .credit) new mostCredit
-  ruled e (Did (local.RaiseStream id new)) =
-      holds Fitting (eqb (typeOf id) 3 || leb (openedOf c (typeOf id)) (ordinal id)) NotServed _ (λ t. record { not-120 = refl }) (λ t.
+  reply-fits : (e : Entry) (k : Call) → Fitting (replyOf c e k)
+  unfolding replyOf
+  reply-fits e (RaiseCredit new) = raises (c .limits .credit) new mostCredit
+  reply-fits e (RaiseStream id new) =
+      holds Fitting (not (receives (halfOf id)) || leb (openedOf c (halfOf id)) (ordinalOf id)) NotServed _ (λ t. record { not-120 = refl }) (λ t.
       holds Fitting (isKnown (finalOf (e .size))) SizeKnown _ (λ t. record { not-120 = refl }) (λ t. raises (e .credit) new mostCredit))
-  ruled e (Did (local.RaiseCount ty new)) = holds Fitting (eqb ty 0 || eqb ty 2) _ NotServed (λ t. raises (countOf c ty) new mostStreams) (λ t. record { not-120 = refl })
-  ruled e (Did (local.OpenNext ty)) =
-      holds Fitting (not (eqb ty 1 || eqb ty 3)) NotServed _ (λ t. record { not-120 = refl }) (λ t.
-      holds Fitting (leb mostStreams (openedOf c ty)) AboveCeiling Accepted (λ t. record { not-120 = refl }) (λ t. record { not-120 = refl }))
-  ruled e (Did (local.HandOut space)) = holds Fitting (ltb (2 ^ 62 - 1) (nextOf c space)) AboveCeiling Accepted (λ t. record { not-120 = refl }) (λ t. record { not-120 = refl })
+  reply-fits e (RaiseCount ty new) = holds Fitting (not (peersType ty)) NotServed _ (λ t. record { not-120 = refl }) (λ t. raises (countOf c (halfOf ty)) new mostStreams)
+  reply-fits e (OpenNext ty) =
+      holds Fitting (not (oursType ty)) NotServed _ (λ t. record { not-120 = refl }) (λ t.
+      holds Fitting (leb mostStreams (openedOf c (halfOf ty))) AboveCeiling Accepted (λ t. record { not-120 = refl }) (λ t. record { not-120 = refl }))
 
-  called : (e : Entry) (k : Call) → Fitting (callOf c e k)
-  unfolding callOf
-  called e k = holds Fitting (not (isOpen (c .mark))) Closed _ (λ t. record { not-120 = refl }) (λ t. ruled e (Did k))
+  abbrev RepliedFits : Replied → Type 0
+  RepliedFits r = Fitting (r .called .answer)
+
+  replied-fits : (e : Entry) (k : Call) → RepliedFits (repliedOf c e k)
+  unfolding repliedOf ruledOf calls.settledOf
+  replied-fits e k =
+      holds RepliedFits (not (isOpen (c .mark))) _ _ (λ t. record { not-120 = refl }) (λ t.
+      holds RepliedFits (accepts (replyOf c e k)) _ _ (λ a. record { not-120 = refl }) (λ a. reply-fits e k))
 
 -- ---- one frame, and the walk
 
-asked-fits : (kind : Kind) (at : ℕ) (r : Reading) → IfRefused Fitting r → Fitting (askedOf kind at r .answer)
-unfolding askedOf
-asked-fits kind at (Got frame ty next) f = record { not-120 = refl }
-asked-fits kind at (Refused answer ty) f = f
+request-fits : (kind : Kind) (at : ℕ) (r : Reading) → IfRefused Fitting r → Fitting (requestOf kind at r .answer)
+unfolding requestOf
+request-fits kind at (Got frame ty next) f = record { not-120 = refl }
+request-fits kind at (Refused answer ty) f = f
 
-judged-fits : (c : Conn) (e : Entry) (ty : ℕ) (v : View) → Fitting (judgedOf c e ty v .answer)
+judged-fits : (c : Conn) (e : Entry) (ty : ℕ) (v : View) → JudgedFits (judgedOf c e ty v)
 unfolding judgedOf settledOf
-judged-fits c e ty v = go (accepts (ruledOf c e (Heard v))) refl
-  where
-    go : (b : Bool) → accepts (ruledOf c e (Heard v)) ≡ b → Fitting (judgedOf c e ty v .answer)
-    go true f = rw f (record { not-120 = refl })
-    go false f = rw f (ruled c e (Heard v))
+judged-fits c e ty v = holds JudgedFits (accepts (verdictOf c e v)) _ _ (λ a. record { not-120 = refl }) (λ a. verdict-fits c e v)
 
-turn-fits : (c : Conn) (e : Entry) (a : Asked) → Fitting (a .answer) → Fitting (turnOf c e a .stepped .answer)
-unfolding turnOf
-turn-fits c e a f = holds (λ (t : Turned). Fitting (t .stepped .answer)) (accepts (a .answer)) _ _ (λ t. judged-fits c e (a .ty) (a .view)) (λ t. f)
+decided-fits : (c : Conn) (e : Entry) (a : Request) → Fitting (a .answer) → Fitting (decidedOf c e a .stepped .answer)
+unfolding decidedOf
+decided-fits c e a f = holds (λ (d : Decided). Fitting (d .stepped .answer)) (accepts (a .answer)) _ _ (λ t. judged-fits c e (a .ty) (a .view)) (λ t. f)
 
 stepped-fits : (c : Conn) (t : List Entry) (s : List ℕ) (at : ℕ) (kind : Kind) → Fitting (steppedAt c t s at kind .answer)
-unfolding turnAt askedAt
-stepped-fits c t s at kind = turn-fits c _ _ (asked-fits kind at (frameAt s at kind) (refused-with Fitting (record { not-120 = refl }) (record { not-120 = refl }) s at kind))
+unfolding decidedAt requestAt
+stepped-fits c t s at kind = decided-fits c _ _ (request-fits kind at (frameAt s at kind) (refused-with Fitting (record { not-120 = refl }) (record { not-120 = refl }) s at kind))
 
-abbrev StopFits : Stopped × List Entry → Type 0
-StopFits w = Fitting (w .0 .answer)
+abbrev StopFits : Walked → Type 0
+StopFits w = Fitting (w .stop .answer)
 
 walk-fits : (k : ℕ) (c : Conn) (t : List Entry) (s : List ℕ) (at : ℕ) (kind : Kind) → StopFits (walkFrom k c t s at kind)
 unfolding walkFrom
 walk-fits zero c t s at kind = record { not-120 = refl }
 walk-fits (suc k) c t s at kind =
-    holds StopFits (leb (length s) at) (stopped c at Accepted, t) _ (λ e. record { not-120 = refl }) (λ e.
-    holds StopFits (steppedAt c t s at kind .more) (walkFrom k (steppedAt c t s at kind .conn) (stepTable c t s at kind) s (steppedAt c t s at kind .next) kind)
-    (stopped (steppedAt c t s at kind .conn) at (steppedAt c t s at kind .answer), stepTable c t s at kind) (λ m. walk-fits k _ _ s _ kind) (λ m. stepped-fits c t s at kind))
+    holds StopFits (leb (length s) at) _ _ (λ e. record { not-120 = refl }) (λ e.
+    holds StopFits (steppedAt c t s at kind .more) _ _ (λ m. walk-fits k _ _ s _ kind) (λ m. stepped-fits c t s at kind))
 
 -- ---- the calls, where all fits
 
 begun-fits : (c : Conn) (end : ℕ) (live fit : Bool) (begun : Begun) → fit ≡ true → Begins c end live fit begun → Fitting (begun .answer)
-unfolding begin.closesOf begin.leftOf
+unfolding begin.closesOf begin.refusedOf
 begun-fits c end live fit _ f (goes kind at number e) = record { not-120 = refl }
 begun-fits c end live fit _ f (closes e) = record { not-120 = refl }
 begun-fits c end live fit _ f (stays answer q) = record { not-120 = q .fitting f }
@@ -186,21 +189,9 @@ finish-fits begun w rs f g =
     holds TookFits (accepts (begun .answer)) _ _ (λ e.
     holds TookFits (accepts (w .answer)) _ _ (λ d. record { not-120 = refl }) (λ d. g)) (λ e. f)
 
-left-fits : (answer : Answer) (c conn : Conn) → Fitting answer → Fitting (leftOf answer c conn .answer)
-unfolding leftOf
-left-fits answer c conn f = holds CalledFits (accepts answer) _ _ (λ e. record { not-120 = refl }) (λ e. f)
-
-when-fits : (fit : Bool) (c : Conn) (k : Call) → fit ≡ true → Fitting (calledWhen fit c k .answer)
-unfolding calledWhen calledOf
-when-fits fit c k f = rw f (left-fits (callOf c (fresh 0) k) c _ (called c (fresh 0) k))
-
-next-fits : (fit : Bool) (c : Conn) (ty : ℕ) → fit ≡ true → Fitting (openedNextWhen fit c ty .answer)
-unfolding openedNextWhen openedNextOf
-next-fits fit c ty f = rw f (holds NumberedFits (accepts (callOf c (fresh 0) (local.OpenNext ty))) _ _ (λ a. record { not-120 = refl }) (λ a. called c (fresh 0) (local.OpenNext ty)))
-
-handed-fits : (c : Conn) (space : Space) → Fitting (handedOutOf c space .answer)
-unfolding handedOutOf handOutOf
-handed-fits c space = holds NumberedFits (accepts (handOutOf c space)) _ _ (λ a. record { not-120 = refl }) (λ a. holds Fitting (ltb (2 ^ 62 - 1) (nextOf c space)) AboveCeiling Accepted (λ t. record { not-120 = refl }) (λ t. record { not-120 = refl }))
+handed-fits : (c : Conn) (space : Space) → CalledFits (handedOutOf c space)
+unfolding handedOutOf
+handed-fits c space = holds CalledFits (ltb mostCredit (nextOf c space)) _ _ (λ t. record { not-120 = refl }) (λ t. record { not-120 = refl })
 
 gate-fits : (fit : Bool) (mark : Mark) → fit ≡ true → Fitting (gateOf fit mark .answer)
 unfolding gateOf
@@ -218,20 +209,14 @@ module _ (h : Host) (f : fits (h .conn) (h .table) ≡ true) where
       finish-fits begun _ (h .records) (begun-fits (h .conn) (length s) _ _ begun (rw (f, g)) (begins (h .conn) (h .records) (fits (h .conn) (h .table)) first s))
       (walk-fits (length s - begun .at) (begun .conn) (h .table) s (begun .at) (begun .kind))
 
-  raised-fits : (id new : ℕ) → Fitting (answered h (RaiseStream id new))
-  unfolding raisedStream raisedOf
-  raised-fits id new =
-      holds CalledFits (fits (h .conn) (h .table)) _ _ (λ e.
-      holds JudgedFits (accepts (callOf (h .conn) (entryOf (h .table) id) (local.RaiseStream id new))) _ _ (λ a. record { not-120 = refl }) (λ a. called (h .conn) (entryOf (h .table) id) (local.RaiseStream id new)))
-      (λ e. absurd (not-both _ f e))
+  call-fits : (k : Call) → Fitting (answered h (Make k))
+  unfolding calledAt
+  call-fits k = holds CalledFits (fits (h .conn) (h .table)) _ _ (λ e. replied-fits (h .conn) (entryAt (h .table) (callPlace k)) k) (λ e. absurd (not-both _ f e))
 
   pub answer-fits : (x : Act) → recordsFit (h .records) ≡ true → Fitting (answered h x)
   answer-fits (TakeFrame s at kind) g = frame-fits s at kind
   answer-fits (TakePacket first s) g = packet-fits first s g
-  answer-fits (RaiseCredit new) g = when-fits _ (h .conn) (local.RaiseCredit new) f
-  answer-fits (RaiseStream id new) g = raised-fits id new
-  answer-fits (RaiseCount ty new) g = when-fits _ (h .conn) (local.RaiseCount ty new) f
-  answer-fits (OpenStream ty) g = next-fits _ (h .conn) ty f
+  answer-fits (Make k) g = call-fits k
   answer-fits (HandOut space) g = handed-fits (h .conn) space
 
 -- ---- the records
@@ -280,10 +265,7 @@ acted-sound : (h : Host) (x : Act) → recordsFit (h .records) ≡ true → reco
 unfolding tookOf
 acted-sound h (TakeFrame s at kind) e = e
 acted-sound h (TakePacket first s) e = finish-sound _ _ (h .records) e
-acted-sound h (RaiseCredit new) e = e
-acted-sound h (RaiseStream id new) e = e
-acted-sound h (RaiseCount ty new) e = e
-acted-sound h (OpenStream ty) e = e
+acted-sound h (Make k) e = e
 acted-sound h (HandOut space) e = e
 
 kept-sound : (h : Host) (xs : List Act) → recordsFit (h .records) ≡ true → recordsFit (kept h xs .records) ≡ true
@@ -292,6 +274,6 @@ kept-sound h [] e = e
 kept-sound h (x ∷ xs) e = kept-sound (acted h x) xs (acted-sound h x e)
 
 -- From opening on the records can be, whatever was called.
-pub records-fit : (o : Opening) (t : List Entry) (xs : List Act) → recordsFit (kept (hosted o t) xs .records) ≡ true
+pub records-fit : (o : Limits) (t : List Entry) (xs : List Act) → recordsFit (kept (hosted o t) xs .records) ≡ true
 unfolding hosted
 records-fit o t xs = let s = can-be noneOf none-fits in kept-sound (hosted o t) xs (records-test _ (record { initial = s; handshake = s; application = s }))

@@ -1,9 +1,11 @@
 pub mod Acknowledged
 pub mod Begins
-pub mod Lifted
-pub mod Fitting
-pub mod Accounted
 pub mod Bench
-pub mod Refusals
-pub mod Recorded
+pub mod Fitting
+pub mod Kept
+pub mod Lifted
+pub mod Neighbours
 pub mod Packets
+pub mod Proved
+pub mod Recorded
+pub mod Refusals

@@ -6,12 +6,10 @@ use Rattle.numbers.specs.Numbers.{nearestOf, recoveredOf}
 use Rattle.ring.specs.Bits.{bit, bitAt, unmarked}
 use Rattle.records.specs.Marks.{recorded, noneOf, testOf, soundOf}
 use Rattle.records.specs.Ring.{wordOf, listOf, slotOf, ringOf, withMark, takenOf}
-use Rattle.streams.specs.Conn.{markedAs}
-use Rattle.streams.specs.Opening.{openedConn}
-use Rattle.packets.specs.First.{toldOf, sizeIn, reservedOf}
-use Rattle.packets.specs.Begin.{leftOf, closesOf, numberedOf, inSpaceOf}
+use Rattle.packets.specs.First.{headerOf, sizeIn, reservedOf}
+use Rattle.packets.specs.Begin.{refusedOf, closesOf, testedOf, inSpaceOf}
 use Rattle.demands.specs.Packets.{Packets}
 
 pub packets : Packets
-unfolding bigEndian nearestOf recoveredOf bit bitAt recorded noneOf testOf unmarked soundOf wordOf listOf slotOf ringOf withMark takenOf markedAs openedConn toldOf sizeIn reservedOf leftOf closesOf numberedOf inSpaceOf
+unfolding bigEndian nearestOf recoveredOf bit bitAt recorded noneOf testOf unmarked soundOf wordOf listOf slotOf ringOf withMark takenOf headerOf sizeIn reservedOf refusedOf closesOf testedOf inSpaceOf
 packets = record { kinds = refl; sizes = refl; reserved = refl; order = refl }

@@ -24,18 +24,18 @@ use Rattle.records.proofs.Taking.{take-new, added}
 use Rattle.streams.specs.declared.Conn.{Conn}
 use Rattle.streams.specs.declared.Space.{Space}
 use Rattle.streams.specs.declared.Space.the-variants.{Initial, Handshake, Application}
-use Rattle.streams.specs.Conn.{isOpen}
-use Rattle.streams.specs.Fits.{fits}
-use Rattle.streams.specs.Frames.{spaceOf, accepts}
-use Rattle.accounts.proofs.Tests.{accepts-true}
+use Rattle.streams.specs.Conn.{isOpen, spaceOf}
+use Rattle.limits.specs.Fits.{fits}
+use Rattle.answers.specs.Answers.{accepts}
+use Rattle.answers.proofs.Accepts.{accepts-true}
 use Rattle.packets.specs.declared.Begun.{Begun}
 use Rattle.packets.specs.declared.Records.{Records}
 use Rattle.packets.specs.declared.Stopped.{Stopped}
-use Rattle.packets.specs.declared.Told.{Told}
-use Rattle.packets.specs.declared.Told.the-variants as Told'
-use Rattle.packets.specs.First.{toldOf, sizeIn, reservedOf}
+use Rattle.packets.specs.declared.Header.{Header}
+use Rattle.packets.specs.declared.Header.the-variants as Header'
+use Rattle.packets.specs.First.{headerOf, sizeIn, reservedOf}
 use Rattle.packets.specs.Spaces.{recordOf, withRecord, recordsFit, recordedOf}
-use Rattle.packets.specs.Begin.{leftOf, closesOf, numberedOf, withRecovered, inSpaceOf, withKind, beginOf}
+use Rattle.packets.specs.Begin.{refusedOf, closesOf, testedOf, withRecovered, inSpaceOf, withKind, beginOf}
 use Rattle.packets.specs.Finish.{finishOf}
 use Rattle.receive.specs.Taking.{begunOf, tookOf}
 use Rattle.receive.specs.Walk.{stoppedOf}
@@ -56,8 +56,8 @@ module _ (c : Conn) (rs : Records) (byte : ℕ) (s : List ℕ) where
   abbrev Sure : Begun → Type 0
   Sure g = accepts (g .answer) ≡ true → takenOf (recordOf rs (spaceOf (g .kind))) (g .number) .answer ≡ Accepted
 
-  left-sure : (d : Conn) (answer : Answer) → accepts answer ≡ false → Sure (leftOf d answer (length s))
-  unfolding leftOf
+  left-sure : (d : Conn) (answer : Answer) → accepts answer ≡ false → Sure (refusedOf d answer (length s))
+  unfolding refusedOf
   left-sure d answer f e = absurd (true≢false (sym e ∙ f))
 
   closes-sure : Sure (closesOf c (length s))
@@ -69,8 +69,8 @@ module _ (c : Conn) (rs : Records) (byte : ℕ) (s : List ℕ) where
     unfolding checkOf
     taken-new kind number l t = ap (λ (x : Taken). x .answer) (sym (take-new (recordOf rs (spaceOf kind)) number (rw (each rs fit (spaceOf kind)) refl) (omega (arith, l)) t))
 
-    numbered-sure : (kind : Kind) (number n : ℕ) → number < 2 ^ 62 → Sure (numberedOf c (testOf (recordOf rs (spaceOf kind)) number) kind number byte n (length s))
-    unfolding numberedOf
+    numbered-sure : (kind : Kind) (number n : ℕ) → number < 2 ^ 62 → Sure (testedOf c (testOf (recordOf rs (spaceOf kind)) number) kind number byte n (length s))
+    unfolding testedOf
     numbered-sure kind number n l =
         holds Sure (not (accepts (testOf (recordOf rs (spaceOf kind)) number))) _ _ (λ e. left-sure c _ (not-true _ e)) (λ e.
         holds Sure (reservedOf byte) _ _ (λ _. closes-sure) (λ _.
@@ -80,20 +80,20 @@ module _ (c : Conn) (rs : Records) (byte : ℕ) (s : List ℕ) where
     unfolding inSpaceOf recoveredOf
     space-sure kind =
         holds Sure (ltb (length s) (bytesIn (sizeIn byte))) _ _ (λ _. left-sure c NoPacket refl) (λ _.
-        holds (λ (r : Recovered). Sure (withRecovered r (λ answer. leftOf c answer (length s)) (λ number. numberedOf c (testOf (recordOf rs (spaceOf kind)) number) kind number byte (bytesIn (sizeIn byte)) (length s))))
+        holds (λ (r : Recovered). Sure (withRecovered r (λ answer. refusedOf c answer (length s)) (λ number. testedOf c (testOf (recordOf rs (spaceOf kind)) number) kind number byte (bytesIn (sizeIn byte)) (length s))))
         (ltb (nearestOf (recordOf rs (spaceOf kind) .top) (windowOf (sizeIn byte)) (bigEndian s 0 (bytesIn (sizeIn byte)))) (2 ^ 62)) (Recovered'.Is _) (Recovered'.Refused NoSuchNumber)
         (λ b. numbered-sure kind _ _ (ltb-true _ _ b)) (λ _. left-sure c NoSuchNumber refl))
 
-    kind-sure : (r : Told) → Sure (withKind r (leftOf c NoPacket (length s)) (λ kind. inSpaceOf c (recordOf rs (spaceOf kind)) kind byte s))
-    kind-sure (Told'.Carries kind) = space-sure kind
-    kind-sure Told'.NoPacket = left-sure c NoPacket refl
+    kind-sure : (r : Header) → Sure (withKind r (refusedOf c NoPacket (length s)) (λ kind. inSpaceOf c (recordOf rs (spaceOf kind)) kind byte s))
+    kind-sure (Header'.Carries kind) = space-sure kind
+    kind-sure Header'.NoPacket = left-sure c NoPacket refl
 
   begin-sure : (whole : Bool) → Sure (beginOf c rs whole byte s)
   unfolding beginOf
   begin-sure whole =
       holds Sure (not (whole && recordsFit rs)) _ _ (λ _. left-sure c DoesNotFit refl) (λ e.
       holds Sure (not (isOpen (c .mark))) _ _ (λ _. left-sure c Closed refl) (λ _.
-      kind-sure (and-eq-true-iff whole (recordsFit rs) .0 (not-false _ e) .1) (toldOf byte)))
+      kind-sure (and-eq-true-iff whole (recordsFit rs) .0 (not-false _ e) .1) (headerOf byte)))
 
 -- an accepted packet went on to its frames, and its number was handed to the record
 module _ (g : Begun) (w : Stopped) (rs : Records) where

@@ -1,65 +1,69 @@
--- What a host's calls brought, as the events of demand 3: the frames that stand in a payload, one after the other, and the local calls.
+-- What a host's calls brought: the frames and local calls that were accepted, as the definitions of the calls themselves give them; and the frames that stand in a payload.
 use Prim.Native.Nat.{ℕ, zero, suc, _-_}
 use mathlib.Core.List.{List, [], _∷_}
 use lib.ListN.{length}
-use lib.Dec.{leb, eqb}
+use lib.Dec.{leb}
 use Rattle.answers.specs.Choice.{_⇒_∣_}
-use Rattle.answers.specs.Answers.{numberOf}
+use Rattle.answers.specs.Answers.{accepts}
 use Rattle.frames.specs.declared.Kind.{Kind}
+use Rattle.frames.specs.declared.Frame.{Frame}
 use Rattle.frames.specs.declared.Reading.{Reading}
 use Rattle.frames.specs.declared.Reading.the-variants.{Got, Refused}
 use Rattle.frames.specs.Reading.{frameAt}
 use Rattle.streams.specs.declared.Entry.{Entry}
-use Rattle.streams.specs.Frames as local
-use Rattle.streams.specs.Frames.{Event, viewOf, accepts}
-use Rattle.accounts.specs.History.{Opening}
-use Rattle.accounts.specs.Run.{Item, Try}
-use Rattle.accounts.specs.Run.Item.{Read, Broken}
-use Rattle.accounts.specs.Run.Try.{Packet, Local}
-use Rattle.accounts.specs.Demand3.{history}
+use Rattle.streams.specs.declared.Limits.{Limits}
+use Rattle.rules.specs.declared.View.{View}
+use Rattle.rules.specs.View.{viewOf}
 use Rattle.packets.specs.declared.Begun.{Begun}
-use Rattle.receive.specs.Taking.{begunOf}
-use Rattle.demands.specs.Hosts.{Host, Act, acted, hosted}
-use Rattle.demands.specs.Hosts.Act.{TakeFrame, TakePacket, RaiseCredit, RaiseStream, RaiseCount, OpenStream, HandOut}
+use Rattle.receive.specs.Walk.{stepHeard, walkAll}
+use Rattle.receive.specs.Taking.{gateAt, begunOf}
+use Rattle.accounts.specs.History.{Event}
+use Rattle.accounts.specs.History.Event.{Got as Heard, Did, Gave}
+use Rattle.demands.specs.Hosts.{Host, Act, answered, acted, hosted}
+use Rattle.demands.specs.Hosts.Act.{TakeFrame, TakePacket, Make, HandOut}
 
--- one frame as it was read: what it asks of the streams, or the code that refuses it as it stands
-abbrev pub itemOf : Kind → Reading → Item
-itemOf kind (Got frame ty next) = Read ty (viewOf kind frame)
-itemOf kind (Refused answer ty) = Broken answer ty
+-- what some frames asked, put on top of a history
+unfoldable pub onto : List View → List Event → List Event
+onto [] l = l
+onto (v ∷ vs) l = onto vs (Heard v ∷ l)
 
--- goes on behind a frame that was read
-abbrev pub behind : Reading → (ℕ → List Item) → List Item
-behind (Got frame ty next) k = k next
-behind (Refused answer ty) k = []
+-- what a call adds to a history: a packet what its walk heard, and any other call itself, where it was accepted
+abbrev pub noted : Host → Act → List Event → List Event
+noted h (TakeFrame s at kind) l =
+    gateAt (h .conn) (h .table) .passes ⇒ onto (stepHeard (h .conn) (h .table) s at kind) l
+    ∣ l
+noted h (TakePacket first s) l =
+    let begun = begunOf (h .conn) (h .records) (h .table) first s in
+    onto (walkAll (begun .conn) (h .table) s (begun .at) (begun .kind) .heard) l
+noted h (Make call) l =
+    accepts (answered h (Make call)) ⇒ Did call ∷ l
+    ∣ l
+noted h (HandOut space) l =
+    accepts (answered h (HandOut space)) ⇒ Gave space ∷ l
+    ∣ l
 
--- the frames of a payload from a place on, k at most
-unfoldable pub itemsFrom : ℕ → List ℕ → ℕ → Kind → List Item
-itemsFrom zero s at kind = []
-itemsFrom (suc k) s at kind =
+unfoldable pub heardAfter : Host → List Act → List Event → List Event
+heardAfter h [] l = l
+heardAfter h (x ∷ xs) l = heardAfter (acted h x) xs (noted h x l)
+
+-- the frames and calls that were accepted since opening, the latest first
+abbrev pub heardBy : Limits → List Entry → List Act → List Event
+heardBy o t xs = heardAfter (hosted o t) xs []
+
+-- ---- the frames of a payload, whether or not they are accepted
+
+-- goes on with a frame that can be read and is admitted, and the place after it
+abbrev pub withFrame : {X : Type 0} → Reading → X → (Frame → ℕ → X) → X
+withFrame (Got frame ty next) x k = k frame next
+withFrame (Refused answer ty) x k = x
+
+-- what the frames from a place on ask, k at most
+unfoldable pub framesFrom : ℕ → List ℕ → ℕ → Kind → List View
+framesFrom zero s at kind = []
+framesFrom (suc k) s at kind =
     leb (length s) at ⇒ []
-    ∣ itemOf kind (frameAt s at kind) ∷ behind (frameAt s at kind) (λ next. itemsFrom k s next kind)
+    ∣ withFrame (frameAt s at kind) [] (λ frame next. viewOf kind frame ∷ framesFrom k s next kind)
 
--- the frames of a packet; one that is refused before them has none, or closes the connection with code 10 and no type
-unfoldable pub itemsOf : Begun → List ℕ → List Item
-itemsOf begun s =
-    accepts (begun .answer) ⇒ itemsFrom (length s - begun .at) s (begun .at) (begun .kind)
-    ∣ eqb (numberOf (begun .answer)) 10 ⇒ Broken (begun .answer) 0 ∷ []
-    ∣ []
-
--- a call as what it tries on the connection and the table
-abbrev pub tryOf : Host → Act → Try
-tryOf h (TakeFrame s at kind) = Packet (itemOf kind (frameAt s at kind) ∷ [])
-tryOf h (TakePacket first s) = Packet (itemsOf (begunOf (h .conn) (h .records) (h .table) first s) s)
-tryOf h (RaiseCredit new) = Local (local.RaiseCredit new)
-tryOf h (RaiseStream id new) = Local (local.RaiseStream id new)
-tryOf h (RaiseCount ty new) = Local (local.RaiseCount ty new)
-tryOf h (OpenStream ty) = Local (local.OpenNext ty)
-tryOf h (HandOut space) = Local (local.HandOut space)
-
-unfoldable pub tries : Host → List Act → List Try
-tries h [] = []
-tries h (x ∷ xs) = tryOf h x ∷ tries (acted h x) xs
-
--- the frames and local calls that were accepted, the latest first
-abbrev pub heardBy : Opening → List Entry → List Act → List Event
-heardBy o t xs = history o (tries (hosted o t) xs)
+-- the frames of a packet; one that is refused before them has none
+abbrev pub framesOf : Begun → List ℕ → List View
+framesOf begun s = framesFrom (length s - begun .at) s (begun .at) (begun .kind)

@@ -6,3 +6,5 @@ pub mod Demand3
 pub mod Recorded
 pub mod Packets
 pub mod Bench
+pub mod Neighbours
+pub mod Kept

@@ -9,9 +9,11 @@ use Rattle.numbers.specs.declared.Size.the-variants.{One, Two, Three, Four}
 use Rattle.records.specs.declared.Record.{Record}
 use Rattle.records.specs.Marks.{noneOf}
 use Rattle.records.specs.Ring.{takenOf}
+use Rattle.streams.specs.declared.Mark.the-variants.{Open}
 use Rattle.streams.specs.Opening.{openedConn}
-use Rattle.packets.specs.declared.Told.the-variants.{Carries, NoPacket}
-use Rattle.packets.specs.First.{toldOf, sizeIn, reservedOf}
+use Rattle.streams.specs.Small.{small}
+use Rattle.packets.specs.declared.Header.the-variants.{Carries, NoPacket}
+use Rattle.packets.specs.First.{headerOf, sizeIn, reservedOf}
 use Rattle.packets.specs.Begin.{inSpaceOf}
 
 -- the record that holds 5 alone
@@ -20,11 +22,11 @@ only5 = takenOf noneOf 5 .«record»
 
 -- the answers to some 1-RTT packets before their frames, each a first byte and the bytes behind it, where 5 was recorded
 abbrev pub begun : List (ℕ × List ℕ) → List ℕ
-begun l = map (λ p. numberOf (inSpaceOf (openedConn 16 16 16 4 4 40) only5 OneRtt (p .0) (p .1) .answer)) l
+begun l = map (λ p. numberOf (inSpaceOf (openedConn small Open) only5 OneRtt (p .0) (p .1) .answer)) l
 
 pub record Packets : Type 0 where
   -- "the plain first byte (it tells the kind)": long with bits 0x30, short; Retry and bit 0x40 clear are none
-  pub kinds : map toldOf (0xc0 ∷ 0xd0 ∷ 0xe0 ∷ 0xf0 ∷ 0x80 ∷ 0x40 ∷ 0x7f ∷ 0x00 ∷ [])
+  pub kinds : map headerOf (0xc0 ∷ 0xd0 ∷ 0xe0 ∷ 0xf0 ∷ 0x80 ∷ 0x40 ∷ 0x7f ∷ 0x00 ∷ [])
       ≡ Carries Initial ∷ Carries ZeroRtt ∷ Carries Handshake ∷ NoPacket ∷ NoPacket ∷ Carries OneRtt ∷ Carries OneRtt ∷ NoPacket ∷ []
   -- "The low two bits of the plain first byte, plus one, give the length of the number"
   pub sizes : map sizeIn (0x40 ∷ 0x41 ∷ 0x42 ∷ 0x43 ∷ 0xfc ∷ []) ≡ One ∷ Two ∷ Three ∷ Four ∷ One ∷ []

@@ -10,9 +10,8 @@ use Rattle.answers.specs.Choice.{_⇒_∣_}
 use Rattle.streams.specs.declared.Entry.{Entry}
 use Rattle.streams.specs.declared.Final.{Final}
 use Rattle.streams.specs.declared.Final.the-variants.{Unknown, Known}
-use Rattle.streams.specs.Calls.{isKnown}
-use Rattle.streams.specs.Entry.{mostCredit, finalOf}
-use Rattle.streams.specs.Fits.{sizeFits, isFresh, entryFitsAs}
+use Rattle.streams.specs.Entry.{mostCredit, finalOf, isKnown}
+use Rattle.limits.specs.Fits.{sizeFits, isFresh, entryFitsAs}
 
 -- no final size contradicts no end
 unknown-fits : (k : Final) (end : ℕ) → not (isKnown k) ≡ true → sizeFits k end ≡ true

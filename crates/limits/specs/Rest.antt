@@ -1,11 +1,12 @@
--- The check of a type's 64 entries in two parts: the opened ones one by one, and the rest together, which are unopened and must be as opening set them.
+-- The check of a half's 64 entries in two parts: the opened ones one by one, and the rest together, which are unopened and must be as opening set them.
 use Prim.Native.Nat.{ℕ}
 use mathlib.Core.Bool.{Bool, not}
 use lib.Dec.{ltb, leb}
 use Rattle.answers.specs.Choice.{_⇒_∣_}
-use Rattle.streams.specs.Entry.{mostStreams, mostCredit}
-use Rattle.streams.specs.declared.Summed.{Summed}
-use Rattle.streams.specs.declared.Summed.the-variants.{To, Unfit}
+use Rattle.halves.specs.Stream.{mostStreams}
+use Rattle.streams.specs.Entry.{mostCredit}
+use Rattle.limits.specs.declared.fits.Summed.{Summed}
+use Rattle.limits.specs.declared.fits.Summed.the-variants.{To, Unfit}
 
 -- how many of the 64 are opened
 unfoldable pub openedIn : ℕ → ℕ

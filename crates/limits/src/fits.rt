@@ -1,10 +1,22 @@
 // The check of a connection's own numbers, and of one entry of its table as a step of a fold.
 ghost use mathlib.Core.Path.{_≡_};
-ghost use Rattle.streams.specs.Fits.{sizeFits, isFresh, entryFitsAs, limitsFit, countsFit, connFits, summedOf, concludedOf};
+ghost use Rattle.limits.specs.Fits.{sizeFits, isFresh, entryFitsAs, openFit, connFits, summedOf, concludedOf, partOf};
 use streams::Conn;
 use streams::Entry;
 use streams::Final;
-use streams::Summed;
+
+// The sum of the ends so far, or an entry that does not fit.
+pub enum Summed {
+    To { sum: u64 },
+    Unfit,
+}
+
+// What the check of a half's entries asks of a connection.
+pub struct Part {
+    pub credit: u64,
+    pub opened: u64,
+    pub initial: u64,
+}
 
 fn size_fits(known: Final, end: u64) -> bool
     ensures { λ r. ⌜ r ≡ sizeFits known end ⌝ }
@@ -31,7 +43,7 @@ fn is_fresh(e: Entry, credit: u64) -> bool
     }
 }
 
-// An entry at an ordinal of its type, of which so many are open and whose initial credit is `init`. Most entries of a
+// An entry at an ordinal of its half, of which so many are open and whose initial credit is `init`. Most entries of a
 // table are unopened, and one that is as opening set it needs no other test of its own.
 fn entry_fits(opened: u64, init: u64, ordinal: u64, e: Entry) -> bool
     ensures { λ r. ⌜ r ≡ entryFitsAs opened init ordinal e ⌝ }
@@ -90,52 +102,45 @@ pub fn conclude(c: Conn, summed: Summed) -> bool
     conn_fits(c)
 }
 
-// The limits of a connection.
-fn limits_fit(c: Conn) -> bool
-    ensures { λ r. ⌜ r ≡ limitsFit c ⌝ }
+// No more is open than the count allows, or than the ceiling where we open them.
+fn open_fit(c: Conn) -> bool
+    ensures { λ r. ⌜ r ≡ openFit c ⌝ }
 {
-    if Conn::MOST_CREDIT < c.credit {
+    if c.count_of(0) < c.opened[0] {
         return false;
     }
-    if Conn::MOST_CREDIT < c.init0 {
+    if Conn::MOST_STREAMS < c.opened[1] {
         return false;
     }
-    if Conn::MOST_CREDIT < c.init1 {
+    if c.count_of(2) < c.opened[2] {
         return false;
     }
-    c.init2 <= Conn::MOST_CREDIT
-}
-
-fn counts_fit(c: Conn) -> bool
-    ensures { λ r. ⌜ r ≡ countsFit c ⌝ }
-{
-    if Conn::MOST_STREAMS < c.count0 {
-        return false;
-    }
-    if Conn::MOST_STREAMS < c.open1 {
-        return false;
-    }
-    if Conn::MOST_STREAMS < c.count2 {
-        return false;
-    }
-    if Conn::MOST_STREAMS < c.open3 {
-        return false;
-    }
-    if c.count0 < c.open0 {
-        return false;
-    }
-    c.open2 <= c.count2
+    c.opened[3] <= Conn::MOST_STREAMS
 }
 
 // The connection's own numbers.
 pub fn conn_fits(c: Conn) -> bool
     ensures { λ r. ⌜ r ≡ connFits c ⌝ }
 {
-    if c.credit < c.total {
+    let limits = c.limits;
+    if limits.credit < c.total {
         return false;
     }
-    if !limits_fit(c) {
+    if !limits.fit() {
         return false;
     }
-    counts_fit(c)
+    open_fit(c)
+}
+
+// What the check asks of the half of a stream.
+pub fn part_of(c: Conn, id: u64) -> Part
+    ensures { λ r. ⌜ r ≡ partOf c id ⌝ }
+{
+    let limits = c.limits;
+    let s = halves::named(id);
+    Part {
+        credit: limits.credit,
+        opened: c.opened_of(id),
+        initial: limits.initial_of(s.half),
+    }
 }

@@ -1,4 +1,3 @@
-// Limits: the local calls that raise them, and the check that a connection and its table keep to them (120), by value.
-pub mod calls;
+// The check that a connection and its table keep to their limits (120), by value: entry by entry, and the connection's own numbers.
 pub mod fits;
 pub mod rest;

@@ -1,13 +1,13 @@
-// The unopened entries of a type, which are most of a table: looked at together, apart from the opened ones.
+// The unopened entries of a half, which are most of a table: looked at together, apart from the opened ones.
 ghost use mathlib.Core.Path.{_≡_};
 ghost use mathlib.Core.Bool.{_&&_};
-ghost use Rattle.streams.specs.Fits.{isFresh};
+ghost use Rattle.limits.specs.Fits.{isFresh};
 ghost use Rattle.limits.specs.Rest.{openedIn, restOf};
+use crate::fits::Summed;
 use streams::Conn;
 use streams::Entry;
-use streams::Summed;
 
-// How many of the 64 entries of a type are opened.
+// How many of the 64 entries of a half are opened.
 pub fn opened_in(opened: u64) -> u64
     ensures { λ r. ⌜ r ≡ openedIn opened ⌝ }
 {

@@ -2,7 +2,6 @@
 use crate::output;
 use pages::Page;
 use streams::Mark;
-use streams::Opened;
 
 // Rows for the frames of a payload, a page at a time; answers how the connection stands after them. A page has a row at
 // least and a payload no more frames than bytes, so there are no more pages than bytes.
@@ -27,9 +26,7 @@ pub fn list(s: &[u8]) {
     output::text(b"place type code total\n");
     let small = pages::small();
     let opened = small.opened;
-    let Opened::As { conn } = opened else {
-        return;
-    };
+    let conn = opened.conn;
     let table = small.table;
     let first = Page {
         conn,

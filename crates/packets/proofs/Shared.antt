@@ -8,7 +8,7 @@ use types.Run.{OneOf, miss}
 use Rattle.frames.specs.declared.Kind.{Kind}
 use Rattle.frames.specs.declared.Kind.the-variants.{Initial, Handshake, ZeroRtt, OneRtt}
 use Rattle.frames.proofs.Kind as kind
-use Rattle.streams.specs.Frames.{spaceOf}
+use Rattle.streams.specs.Conn.{spaceOf}
 use Rattle.streams.specs.declared.Space.the-variants.{Application}
 
 -- the tags of 0-RTT and 1-RTT

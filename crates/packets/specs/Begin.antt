@@ -19,26 +19,27 @@ use Rattle.records.specs.Marks.{testOf}
 use Rattle.streams.specs.declared.Conn.{Conn}
 use Rattle.streams.specs.declared.Mark.the-variants.{Code}
 use Rattle.streams.specs.Conn.{isOpen, markedAs}
-use Rattle.streams.specs.Frames.{spaceOf, accepts}
-use Rattle.packets.specs.First.{toldOf, sizeIn, reservedOf}
+use Rattle.streams.specs.Conn.{spaceOf}
+use Rattle.answers.specs.Answers.{accepts}
+use Rattle.packets.specs.First.{headerOf, sizeIn, reservedOf}
 use Rattle.packets.specs.Spaces.{recordOf, recordsFit}
 use Rattle.packets.specs.declared.Records.{Records}
-use Rattle.packets.specs.declared.Told.{Told}
-use Rattle.packets.specs.declared.Told.the-variants as Told'
+use Rattle.packets.specs.declared.Header.{Header}
+use Rattle.packets.specs.declared.Header.the-variants as Header'
 use Rattle.packets.specs.declared.Begun.{Begun}
 
 -- refused, with this connection: there are no frames to walk, as they begin where the bytes end
-unfoldable pub leftOf : Conn → Answer → ℕ → Begun
-leftOf c answer end = record { answer = answer; conn = c; kind = OneRtt; at = end; number = 0 }
+unfoldable pub refusedOf : Conn → Answer → ℕ → Begun
+refusedOf c answer end = record { answer = answer; conn = c; kind = OneRtt; at = end; number = 0 }
 
 -- "closed with code and type (type 0 if none was read)"
 unfoldable pub closesOf : Conn → ℕ → Begun
-closesOf c end = leftOf (markedAs c (Code ProtocolViolation 0)) ProtocolViolation end
+closesOf c end = refusedOf (markedAs c (Code ProtocolViolation 0)) ProtocolViolation end
 
 -- a packet whose number is known, of n bytes, and was tested against its record; end is where its bytes end
-unfoldable pub numberedOf : Conn → Answer → Kind → ℕ → ℕ → ℕ → ℕ → Begun
-numberedOf c test kind number first n end =
-    not (accepts test) ⇒ leftOf c test end
+unfoldable pub testedOf : Conn → Answer → Kind → ℕ → ℕ → ℕ → ℕ → Begun
+testedOf c test kind number first n end =
+    not (accepts test) ⇒ refusedOf c test end
     ∣ reservedOf first ⇒ closesOf c end
     ∣ leb end n ⇒ closesOf c end
     ∣ record { answer = Accepted; conn = c; kind = kind; at = n; number = number }
@@ -51,18 +52,18 @@ withRecovered (Recovered'.Refused answer) x k = x answer
 -- a packet of a kind, whose space has this record
 unfoldable pub inSpaceOf : Conn → Record → Kind → ℕ → List ℕ → Begun
 inSpaceOf c R kind first s =
-    ltb (length s) (bytesIn (sizeIn first)) ⇒ leftOf c NoPacket (length s)
-    ∣ withRecovered (recoveredOf (R .top) (sizeIn first) (bigEndian s 0 (bytesIn (sizeIn first)))) (λ answer. leftOf c answer (length s))
-    (λ number. numberedOf c (testOf R number) kind number first (bytesIn (sizeIn first)) (length s))
+    ltb (length s) (bytesIn (sizeIn first)) ⇒ refusedOf c NoPacket (length s)
+    ∣ withRecovered (recoveredOf (R .top) (sizeIn first) (bigEndian s 0 (bytesIn (sizeIn first)))) (λ answer. refusedOf c answer (length s))
+    (λ number. testedOf c (testOf R number) kind number first (bytesIn (sizeIn first)) (length s))
 
 -- goes on with the kind of a packet, or with x where it is none to take
-abbrev pub withKind : {X : Type 0} → Told → X → (Kind → X) → X
-withKind (Told'.Carries kind) x k = k kind
-withKind Told'.NoPacket x k = x
+abbrev pub withKind : {X : Type 0} → Header → X → (Kind → X) → X
+withKind (Header'.Carries kind) x k = k kind
+withKind Header'.NoPacket x k = x
 
 -- whole says whether the connection and its table fit
 unfoldable pub beginOf : Conn → Records → Bool → ℕ → List ℕ → Begun
 beginOf c rs whole first s =
-    not (whole && recordsFit rs) ⇒ leftOf c DoesNotFit (length s)
-    ∣ not (isOpen (c .mark)) ⇒ leftOf c Closed (length s)
-    ∣ withKind (toldOf first) (leftOf c NoPacket (length s)) (λ kind. inSpaceOf c (recordOf rs (spaceOf kind)) kind first s)
+    not (whole && recordsFit rs) ⇒ refusedOf c DoesNotFit (length s)
+    ∣ not (isOpen (c .mark)) ⇒ refusedOf c Closed (length s)
+    ∣ withKind (headerOf first) (refusedOf c NoPacket (length s)) (λ kind. inSpaceOf c (recordOf rs (spaceOf kind)) kind first s)

@@ -2,7 +2,8 @@
 use Rattle.answers.specs.Choice.{_⇒_∣_}
 use Rattle.answers.specs.declared.Answer.{Answer}
 use Rattle.answers.specs.declared.Answer.the-variants.{Accepted}
-use Rattle.streams.specs.Frames.{spaceOf, accepts}
+use Rattle.streams.specs.Conn.{spaceOf}
+use Rattle.answers.specs.Answers.{accepts}
 use Rattle.packets.specs.Spaces.{recordedOf}
 use Rattle.packets.specs.declared.Begun.{Begun}
 use Rattle.packets.specs.declared.Records.{Records}

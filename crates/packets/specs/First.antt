@@ -6,12 +6,12 @@ use Rattle.answers.specs.Choice.{_⇒_∣_}
 use Rattle.frames.specs.declared.Kind.the-variants.{Initial, Handshake, ZeroRtt, OneRtt}
 use Rattle.numbers.specs.declared.Size.{Size}
 use Rattle.numbers.specs.declared.Size.the-variants.{One, Two, Three, Four}
-use Rattle.packets.specs.declared.Told.{Told}
-use Rattle.packets.specs.declared.Told.the-variants.{Carries, NoPacket}
+use Rattle.packets.specs.declared.Header.{Header}
+use Rattle.packets.specs.declared.Header.the-variants.{Carries, NoPacket}
 
 -- bit 0x40 is set; top bit 0 is the short header of 1-RTT; else bits 0x30: 0 Initial, 1 0-RTT, 2 Handshake, and 3, Retry, has no frames
-unfoldable pub toldOf : ℕ → Told
-toldOf first =
+unfoldable pub headerOf : ℕ → Header
+headerOf first =
     eqb (first / 0x40 % 2) 0 ⇒ NoPacket
     ∣ eqb (first / 0x80) 0 ⇒ Carries OneRtt
     ∣ eqb (first / 0x10 % 4) 0 ⇒ Carries Initial

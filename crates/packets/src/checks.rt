@@ -1,14 +1,14 @@
 // A packet before and after its frames: the order of checks up to them, and the record of its number.
 ghost use mathlib.Core.Path.{_≡_};
 ghost use Rattle.records.specs.Parts.{joined};
-ghost use Rattle.streams.specs.Frames.{spaceOf};
+ghost use Rattle.streams.specs.Conn.{spaceOf};
 ghost use Rattle.packets.specs.Spaces.{ofParts, recordOf, recordsFit, recordedOf};
-ghost use Rattle.packets.specs.Begin.{leftOf, closesOf, numberedOf, inSpaceOf, beginOf};
+ghost use Rattle.packets.specs.Begin.{refusedOf, closesOf, testedOf, inSpaceOf, beginOf};
 ghost use Rattle.packets.specs.Finish.{finishOf};
 use crate::Begun;
+use crate::Header;
 use crate::Records;
 use crate::Stopped;
-use crate::Told;
 use crate::Took;
 use crate::head;
 use answers::Answer;
@@ -18,8 +18,8 @@ use streams::Conn;
 use streams::Mark;
 
 // A packet that is refused and changes nothing.
-fn left(c: Conn, answer: Answer, end: usize) -> Begun
-    ensures { λ r. ⌜ r ≡ leftOf c answer end ⌝ }
+fn refused(c: Conn, answer: Answer, end: usize) -> Begun
+    ensures { λ r. ⌜ r ≡ refusedOf c answer end ⌝ }
 {
     Begun {
         answer,
@@ -34,7 +34,7 @@ fn left(c: Conn, answer: Answer, end: usize) -> Begun
 fn closes(c: Conn, end: usize) -> Begun
     ensures { λ r. ⌜ r ≡ closesOf c end ⌝ }
 {
-    left(
+    refused(
         c.marked(Mark::Code {
             answer: Answer::ProtocolViolation,
             ty: 0,
@@ -45,19 +45,11 @@ fn closes(c: Conn, end: usize) -> Begun
 }
 
 // The number is known and tested: 106 or 107, the reserved bits, no frames.
-fn numbered(
-    c: Conn,
-    test: Answer,
-    kind: Kind,
-    number: u64,
-    first: u8,
-    n: usize,
-    end: usize,
-) -> Begun
-    ensures { λ r. ⌜ r ≡ numberedOf c test kind number first n end ⌝ }
+fn tested(c: Conn, test: Answer, kind: Kind, number: u64, first: u8, n: usize, end: usize) -> Begun
+    ensures { λ r. ⌜ r ≡ testedOf c test kind number first n end ⌝ }
 {
     let Answer::Accepted = test else {
-        return left(c, test, end);
+        return refused(c, test, end);
     };
     if head::reserved(first) {
         return closes(c, end);
@@ -81,11 +73,11 @@ fn in_space(c: Conn, words: &[u64; 128], top: u64, kind: Kind, first: u8, s: &[u
     let size = head::size(first);
     let n = head::bytes_in(size);
     if s.len() < n {
-        return left(c, Answer::NoPacket, s.len());
+        return refused(c, Answer::NoPacket, s.len());
     }
     match numbers::recover(top, size, head::truncated(s, n)) {
-        Recovered::Refused { answer } => left(c, answer, s.len()),
-        Recovered::Is { number } => numbered(
+        Recovered::Refused { answer } => refused(c, answer, s.len()),
+        Recovered::Is { number } => tested(
             c,
             records::test_of(words, top, number),
             kind,
@@ -147,7 +139,7 @@ pub fn begin(c: Conn, records: Records, whole: bool, first: u8, s: &[u8]) -> Beg
     ensures { λ r. ⌜ r ≡ beginOf c records whole first (now (s .entry)) ⌝ }
 {
     if !whole {
-        return left(c, Answer::DoesNotFit, s.len());
+        return refused(c, Answer::DoesNotFit, s.len());
     }
     if !fit(
         &records.initial.words,
@@ -157,14 +149,14 @@ pub fn begin(c: Conn, records: Records, whole: bool, first: u8, s: &[u8]) -> Beg
         &records.application.words,
         records.application.top,
     ) {
-        return left(c, Answer::DoesNotFit, s.len());
+        return refused(c, Answer::DoesNotFit, s.len());
     }
     let mark = c.mark;
     if !mark.is_open() {
-        return left(c, Answer::Closed, s.len());
+        return refused(c, Answer::Closed, s.len());
     }
-    let Told::Carries { kind } = head::told(first) else {
-        return left(c, Answer::NoPacket, s.len());
+    let Header::Carries { kind } = head::header(first) else {
+        return refused(c, Answer::NoPacket, s.len());
     };
     by_kind(
         c,

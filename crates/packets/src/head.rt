@@ -4,33 +4,33 @@ ghost use Prim.Native.Nat.{_≤_};
 ghost use lib.ListN.{length};
 ghost use Rattle.wire.specs.Number.{bigEndian};
 ghost use Rattle.numbers.specs.Numbers.{bytesIn};
-ghost use Rattle.packets.specs.First.{toldOf, sizeIn, reservedOf};
-use crate::Told;
+ghost use Rattle.packets.specs.First.{headerOf, sizeIn, reservedOf};
+use crate::Header;
 use frames::Kind;
 use numbers::Size;
 
 // The kind of packet.
-pub(crate) fn told(first: u8) -> Told
-    ensures { λ r. ⌜ r ≡ toldOf first ⌝ }
+pub(crate) fn header(first: u8) -> Header
+    ensures { λ r. ⌜ r ≡ headerOf first ⌝ }
 {
     if first / 64 % 2 == 0 {
-        return Told::NoPacket;
+        return Header::NoPacket;
     }
     if first / 128 == 0 {
-        return Told::Carries { kind: Kind::OneRtt };
+        return Header::Carries { kind: Kind::OneRtt };
     }
     let form = first / 16 % 4;
     match form {
-        0 => Told::Carries {
+        0 => Header::Carries {
             kind: Kind::Initial,
         },
-        1 => Told::Carries {
+        1 => Header::Carries {
             kind: Kind::ZeroRtt,
         },
-        2 => Told::Carries {
+        2 => Header::Carries {
             kind: Kind::Handshake,
         },
-        _ => Told::NoPacket,
+        _ => Header::NoPacket,
     }
 }
 

@@ -15,7 +15,7 @@ pub struct Records {
 }
 
 // What the plain first byte tells: a packet of frames, or none that can be taken.
-pub enum Told {
+pub enum Header {
     Carries { kind: Kind },
     NoPacket,
 }

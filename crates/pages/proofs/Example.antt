@@ -5,11 +5,8 @@ use mathlib.Core.Path.{_≡_, refl}
 use mathlib.Core.Bool.{false}
 use mathlib.Core.List.{List, [], _∷_, _++_}
 use lib.ListN.{length, take, replicate}
-use Rattle.streams.specs.declared.Opened.{Opened}
-use Rattle.streams.specs.declared.Opened.the-variants.{As, Refused}
-use Rattle.taking.specs.Step.{handedOf, handedAt}
 use Rattle.text.specs.Decimal.{digitsOf, decimalOf}
-use Rattle.columns.specs.Row.{fieldOf, typeOf, rowOf, closedText}
+use Rattle.columns.specs.Row.{fieldOf, typeText, rowOf, closedText}
 use Rattle.rows.specs.Listing.{typeShown, takenRowOf, nextIn, afterOf, lastOf, endingOf}
 use Rattle.pages.specs.Pages.{smallOf, withRow, oneMoreOf, pageFrom, pageOf}
 use Rattle.pages.specs.declared.Page.{Page}
@@ -23,35 +20,36 @@ use Rattle.fields.specs.Parts.{endedAt, partsAt}
 use Rattle.frames.specs.Fields.{frameOf, fieldsAt}
 use Rattle.fields.specs.Heads.{headAt}
 use Rattle.frames.specs.Reading.{frameAt}
-use Rattle.streams.specs.Entry.{listed, placeOf, finalOf, reached}
-use Rattle.streams.specs.Conn.{upTo, openTo, markedAs}
-use Rattle.streams.specs.Opening.{openedConn, openingOf}
-use Rattle.streams.specs.Rules.{rule1, rule2, rule3, rule4, rule5, endsOf}
-use Rattle.streams.specs.Frames.{endOf, ruledOf, connAfter, entryAfter, settledOf, judgedOf}
-use Rattle.streams.specs.Fits.{isFresh, entryFitsAs, limitsFit, countsFit, connFits, sumTo, allTo, fits}
-use Rattle.taking.specs.Step.{askedOf, askedAt, turnOf}
-use Rattle.taking.specs.Local.{gateOf, openingWhen}
+use Rattle.halves.specs.Stream.{idOf, listed, placeOf}
+use Rattle.streams.specs.Entry.{finalOf, reached}
+use Rattle.streams.specs.Conn.{countOf}
+use Rattle.streams.specs.Opening.{limitsFit, openingOf}
+use Rattle.rules.specs.Rules.{rule1, rule2, rule3, rule4, rule5, endsOf}
+use Rattle.rules.specs.View.{endOf}
+use Rattle.rules.specs.Verdict.{verdictOf, connHeard, entryHeard, settledOf, judgedOf}
+use Rattle.limits.specs.Fits.{isFresh, entryFitsAs, openFit, connFits, sumTo, allTo, fits}
+use Rattle.steps.specs.Gate.{gateOf}
+use Rattle.steps.specs.Opening.{openingWhen, entriesOf}
+use Rattle.steps.specs.Step.{requestOf, requestAt, decidedOf, shownOf, shownAt}
 use Rattle.receive.specs.Table.{filledTo, openedTable}
-use Rattle.receive.specs.Walk.{turnAt}
+use Rattle.receive.specs.Walk.{decidedAt}
 use Rattle.receive.specs.Taking.{tookFrameOf, frameTable}
 
 -- a page before its first row
-abbrev first : Opened → List Page
-first (As c) = record { conn = c; table = smallOf .table; at = 0; used = 0; full = false } ∷ []
-first (Refused answer) = []
+abbrev first : Page
+first = record { conn = smallOf .opened .conn; table = smallOf .table; at = 0; used = 0; full = false }
 
--- the rows of a payload and the last line behind them, on a page of 100 bytes
-abbrev written : List ℕ → List Page → List ℕ
-written s [] = []
-written s (p ∷ l) = let r = pageOf p s (replicate 100 0) in take (r .0 .used) (r .1) ++ endingOf (lastOf (length s) (r .0 .conn .mark))
+-- the rows of a payload and the last line after them, on a page of 100 bytes
+abbrev written : List ℕ → List ℕ
+written s = let r = pageOf first s (replicate 100 0) in take (r .0 .used) (r .1) ++ endingOf (lastOf (length s) (r .0 .conn .mark))
 
 -- "0 1 0 0", "1 10 0 5", "9 4 3 5", "closed 3"
-pub example : written (1 ∷ 10 ∷ 0 ∷ 5 ∷ 104 ∷ 101 ∷ 108 ∷ 108 ∷ 111 ∷ 4 ∷ 4 ∷ 0 ∷ 20 ∷ []) (first (smallOf .opened))
+pub example : written (1 ∷ 10 ∷ 0 ∷ 5 ∷ 104 ∷ 101 ∷ 108 ∷ 108 ∷ 111 ∷ 4 ∷ 4 ∷ 0 ∷ 20 ∷ [])
     ≡ 48 ∷ 32 ∷ 49 ∷ 32 ∷ 48 ∷ 32 ∷ 48 ∷ 10 ∷ 49 ∷ 32 ∷ 49 ∷ 48 ∷ 32 ∷ 48 ∷ 32 ∷ 53 ∷ 10 ∷ 57 ∷ 32 ∷ 52 ∷ 32 ∷ 51 ∷ 32 ∷ 53 ∷ 10 ∷ 99 ∷ 108 ∷ 111 ∷ 115 ∷ 101 ∷ 100 ∷ 32 ∷ 51 ∷ 10 ∷ []
-unfolding numberAt fieldAt valuesIn bigEndian shortest sizeOf formOf layouts layoutOf known admitted numbersAt optionalAt sizedAt countedAt rangedAt faultOf aboveOf frameOf endedAt partsAt fieldsAt headAt frameAt listed placeOf finalOf reached upTo openTo markedAs openedConn openingOf rule1 rule2 rule3 rule4 rule5 endsOf endOf ruledOf connAfter entryAfter settledOf judgedOf isFresh entryFitsAs limitsFit countsFit connFits sumTo allTo fits askedOf askedAt turnOf gateOf openingWhen filledTo openedTable turnAt tookFrameOf frameTable handedOf handedAt writes digitsOf decimalOf fieldOf typeOf rowOf typeShown takenRowOf nextIn afterOf closedText endingOf smallOf withRow oneMoreOf pageFrom pageOf lastOf
+unfolding numberAt fieldAt valuesIn bigEndian shortest sizeOf formOf layouts layoutOf known admitted numbersAt optionalAt sizedAt countedAt rangedAt faultOf aboveOf frameOf endedAt partsAt fieldsAt headAt frameAt idOf listed placeOf finalOf reached countOf limitsFit openingOf rule1 rule2 rule3 rule4 rule5 endsOf endOf verdictOf connHeard entryHeard settledOf judgedOf isFresh entryFitsAs openFit connFits sumTo allTo fits gateOf openingWhen entriesOf requestOf requestAt decidedOf filledTo openedTable decidedAt tookFrameOf frameTable shownOf shownAt writes digitsOf decimalOf fieldOf typeText rowOf typeShown takenRowOf nextIn afterOf closedText endingOf smallOf withRow oneMoreOf pageFrom pageOf lastOf
 example = refl
 
 -- an empty payload: "closed 10"
-pub none : written [] (first (smallOf .opened)) ≡ 99 ∷ 108 ∷ 111 ∷ 115 ∷ 101 ∷ 100 ∷ 32 ∷ 49 ∷ 48 ∷ 10 ∷ []
-unfolding openedConn openingOf openingWhen decimalOf digitsOf fieldOf closedText endingOf smallOf pageFrom pageOf lastOf
+pub none : written [] ≡ 99 ∷ 108 ∷ 111 ∷ 115 ∷ 101 ∷ 100 ∷ 32 ∷ 49 ∷ 48 ∷ 10 ∷ []
+unfolding limitsFit openingOf openingWhen decimalOf digitsOf fieldOf closedText endingOf smallOf pageFrom pageOf lastOf
 none = refl

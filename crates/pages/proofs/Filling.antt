@@ -9,7 +9,7 @@ use borrow.Author.Tests.{le-leb, lt-leb}
 use lib.ListN.{length}
 use Rattle.wire.specs.Writing.{Bytes, writes}
 use Rattle.wire.specs.declared.Wrote.{Wrote}
-use Rattle.held.specs.declared.HeldFrame.{HeldFrame}
+use Rattle.owned.specs.declared.OwnedFrame.{OwnedFrame}
 use Rattle.rows.specs.Listing.{takenRowOf}
 use Rattle.pages.specs.Pages.{takenFrom, withRow, oneMoreOf, pageFrom}
 use Rattle.pages.specs.declared.Page.{Page}
@@ -36,9 +36,9 @@ module _ (p : Page) (s out : List ℕ) where
   goes-on (suc k) h f l e = let z : suc k - 1 ≡ k = omega arith in rw (← e, z, f, lt-leb (length s) (p .at) l) refl
 
   -- a row more, from what taking the frame and writing its row answered
-  pub by-row : (held : HeldFrame) → held ≡ takenFrom p s → {w : Wrote} {after : List ℕ} → (w, after) ≡ writes (Bytes (takenRowOf (p .at) (held .took))) out (p .used)
-      → {q : Page} → withRow p s held w ≡ q → (q, after) ≡ oneMoreOf p s out
+  pub by-row : (taken : OwnedFrame) → taken ≡ takenFrom p s → {w : Wrote} {after : List ℕ} → (w, after) ≡ writes (Bytes (takenRowOf (p .at) (taken .took))) out (p .used)
+      → {q : Page} → withRow p s taken w ≡ q → (q, after) ≡ oneMoreOf p s out
   unfolding oneMoreOf
-  by-row held e g f =
-      rw (← f) (ap (λ (o : Wrote × List ℕ). (withRow p s held (o .0), o .1)) g
-      ∙ ap (λ (h : HeldFrame). let w = writes (Bytes (takenRowOf (p .at) (h .took))) out (p .used) in (withRow p s h (w .0), w .1)) e)
+  by-row taken e g f =
+      rw (← f) (ap (λ (o : Wrote × List ℕ). (withRow p s taken (o .0), o .1)) g
+      ∙ ap (λ (h : OwnedFrame). let w = writes (Bytes (takenRowOf (p .at) (h .took))) out (p .used) in (withRow p s h (w .0), w .1)) e)

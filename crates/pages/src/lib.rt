@@ -2,10 +2,11 @@
 ghost use mathlib.Core.Path.{_≡_};
 ghost use Rattle.pages.specs.Pages.{smallOf, oneMoreOf, pageOf};
 use frames::Kind;
-use held::HeldOpened;
+use owned::OwnedOpened;
 use rows::taken;
 use streams::Conn;
 use streams::Entry;
+use streams::Limits;
 use wire::Wrote;
 
 // How far a listing is: the connection and its table, the place of the next frame, how much of the output is used, and
@@ -19,10 +20,15 @@ pub struct Page {
 }
 
 // The small connection, opened.
-pub fn small() -> HeldOpened
+pub fn small() -> OwnedOpened
     ensures { λ r. ⌜ r ≡ smallOf ⌝ }
 {
-    held::open(held::room(), 16, 16, 16, 4, 4, 40)
+    let limits = Limits {
+        credit: 40,
+        counts: [4, 4],
+        initial: [16, 16, 16],
+    };
+    owned::open(owned::room(), limits)
 }
 
 // One row more, unless there is no room for it.
@@ -31,8 +37,8 @@ fn one_more(p: Page, s: &[u8], out: &mut [u8]) -> Page
 {
     let conn = p.conn;
     let table = p.table;
-    let held = held::take_frame(conn, table, s, p.at, Kind::OneRtt);
-    let took = held.took;
+    let after = owned::take_frame(conn, table, s, p.at, Kind::OneRtt);
+    let took = after.took;
     let Wrote::To { next } = taken::taken_row(out, p.used, p.at, took) else {
         return Page {
             conn,
@@ -43,7 +49,7 @@ fn one_more(p: Page, s: &[u8], out: &mut [u8]) -> Page
         };
     };
     let left = took.conn;
-    let entries = held.table;
+    let entries = after.table;
     Page {
         conn: left,
         table: entries,
@@ -53,7 +59,7 @@ fn one_more(p: Page, s: &[u8], out: &mut [u8]) -> Page
     }
 }
 
-// The page behind another: rows up to the last frame, or as many as there is room for.
+// The page after another: rows up to the last frame, or as many as there is room for.
 pub fn fill(p: Page, s: &[u8], out: &mut [u8]) -> Page
     ensures { λ r. ⌜ (r, now (out .exit)) ≡ pageOf p (now (s .entry)) (now (out .entry)) ⌝ }
 {

@@ -21,10 +21,14 @@ use denote.Plain.{Nothing, nothing-vals, nothing-tells, uint-makes}
 use denote.Builtin.{u64, usize}
 use denote.Slice.{MutSlice, finally}
 use denote.Steps.{nothing, owned, heard}
+use denote.Struct.Laws as LL
 use denote.Triple.Spec.{tripleOf}
 use denote.Triple.Clauses.{lasts, Lasts}
 use denote.Triple.Statement.{Contract}
 use denote.Triple.Walked.{says}
+use Rattle.streams.specs.declared.Limits.{Limits}
+use Rattle.streams.proofs.Limits as TLimits
+use Rattle.streams.proofs.Limits.Laws as TLimits′
 use Rattle.receive.specs.Table.{filledTo}
 use Rattle.streams.specs.declared.Entry.{Entry}
 use Rattle.streams.proofs.Entry as TEntry
@@ -36,25 +40,25 @@ module _ {M : Type 1} (𝓤 : URA M) (H : Heap 𝓤) (A : Atoms 𝓤) (mem : Mem
   abbrev pub Fill : Contract 𝓤
   Fill = tripleOf 𝓤 H A g.signature (g.spec 𝓤 H A mem run)
 
-  module _ (ys : List Entry) (b o : ℕ) (n : ℕ) (init0 : ℕ) (init1 : ℕ) (init2 : ℕ) where
+  module _ (ys : List Entry) (b o : ℕ) (n : ℕ) (limits : Limits) where
     abbrev pub to-fill : ℕ → GName → Fill .Ghost
-    to-fill ν γ = (((ν ∷ [], tt), (fullShare, tt), tt, (ref TEntry.the-row ys b o γ, (n, (init0, (init1, (init2, tt))))), (vals TEntry.the-row ys b o, (vint w64 n ∷ [], (vint w64 init0 ∷ [], (vint w64 init1 ∷ [], (vint w64 init2 ∷ [], tt)))))), tt)
+    to-fill ν γ = (((ν ∷ [], tt), (fullShare, tt), tt, (ref TEntry.the-row ys b o γ, (n, (limits, tt))), (vals TEntry.the-row ys b o, (vint w64 n ∷ [], (LL.val TLimits.the-type TLimits′.the-laws limits ∷ [], tt)))), tt)
 
     abbrev pub Did-fill : Type 0
     Did-fill = Is Nothing tt (vunit ∷ [])
 
     module _ (W : Given 𝓤 H A) where
-      pub goes-fill : n ≤ length ys → n < 2 ^ 64 → init0 < 2 ^ 64 → init1 < 2 ^ 64 → init2 < 2 ^ 64 → (ν : ℕ) (γ : GName) → ent 𝓤 (sep 𝓤 (A .lft (ν ∷ []) fullShare) (sem 𝓤 H A (MutSlice (named 0) (ν ∷ []) TEntry.the-row .own (ref TEntry.the-row ys b o γ) (vals TEntry.the-row ys b o)))) (Fill .pre (to-fill ν γ))
-      goes-fill within gn ginit0 ginit1 ginit2 ν γ =
-          qed W (‵ (flft (ν ∷ []) fullShare) ∷ ‵ (MutSlice (named 0) (ν ∷ []) TEntry.the-row .own (ref TEntry.the-row ys b o γ) (vals TEntry.the-row ys b o)) ∷ []) ∵ says ! within $ nothing ! $ move ! (1 ∷ 0 ∷ []) $ join ! $ nothing ! $ owned ! u64 (Is u64) (uint-makes 𝓤 H A W w64) init2 _ (refl, ginit2) $ fjoin ! $ owned ! u64 (Is u64) (uint-makes 𝓤 H A W w64) init1 _ (refl, ginit1) $ fjoin ! $ owned ! u64 (Is u64) (uint-makes 𝓤 H A W w64) init0 _ (refl, ginit0) $ fjoin ! $ owned ! usize (Is usize) (uint-makes 𝓤 H A W w64) n _ (refl, gn) $ fjoin ! $ move ! (2 ∷ 0 ∷ []) $ fjoin ! $ move ! (1 ∷ 0 ∷ []) $ done !
+      pub goes-fill : n ≤ length ys → n < 2 ^ 64 → Is TLimits.the-row limits (LL.val TLimits.the-type TLimits′.the-laws limits ∷ []) → (ν : ℕ) (γ : GName) → ent 𝓤 (sep 𝓤 (A .lft (ν ∷ []) fullShare) (sem 𝓤 H A (MutSlice (named 0) (ν ∷ []) TEntry.the-row .own (ref TEntry.the-row ys b o γ) (vals TEntry.the-row ys b o)))) (Fill .pre (to-fill ν γ))
+      goes-fill within gn glimits ν γ =
+          qed W (‵ (flft (ν ∷ []) fullShare) ∷ ‵ (MutSlice (named 0) (ν ∷ []) TEntry.the-row .own (ref TEntry.the-row ys b o γ) (vals TEntry.the-row ys b o)) ∷ []) ∵ says ! within $ nothing ! $ move ! (1 ∷ 0 ∷ []) $ join ! $ nothing ! $ owned ! TLimits.the-row (Is TLimits.the-row) (LL.makes TLimits.the-type TLimits′.the-plain 𝓤 H A) limits _ glimits $ fjoin ! $ owned ! usize (Is usize) (uint-makes 𝓤 H A W w64) n _ (refl, gn) $ fjoin ! $ move ! (2 ∷ 0 ∷ []) $ fjoin ! $ move ! (1 ∷ 0 ∷ []) $ done !
 
-      pub gave-fill : (ν : ℕ) (γ : GName) (v : Val) → ent 𝓤 (Fill .post (to-fill ν γ) v) (H .⇛ (sep 𝓤 (A .lft (ν ∷ []) fullShare) (sep 𝓤 (sem 𝓤 H A (finally TEntry.the-row γ (filledTo n ys init0 init1 init2))) (fact 𝓤 ((v ≡ vunit) × Did-fill)))))
+      pub gave-fill : (ν : ℕ) (γ : GName) (v : Val) → ent 𝓤 (Fill .post (to-fill ν γ) v) (H .⇛ (sep 𝓤 (A .lft (ν ∷ []) fullShare) (sep 𝓤 (sem 𝓤 H A (finally TEntry.the-row γ (filledTo n ys limits))) (fact 𝓤 ((v ≡ vunit) × Did-fill)))))
       gave-fill ν γ v =
-          qed W (raw (Fill .post (to-fill ν γ) v) ∷ []) ∵ updating ! $ use1 W (later ((‵ (flft (ν ∷ []) fullShare) ⊛ ‵ ftrue) ⊛ ‵ (finally TEntry.the-row γ (filledTo n ys init0 init1 init2)) ⊛ raw (fact 𝓤 ((v ≡ vunit) × Did-fill))))
-          (post-of 𝓤 H A W g.signature (g.spec 𝓤 H A mem run) (to-fill ν γ) (sem 𝓤 H A (finally TEntry.the-row γ (filledTo n ys init0 init1 init2))) (tt) nothing-vals nothing-tells said v) $ await ! tt $ at-once ! $ split ! $ split ! $ keep ! (0 ∷ 2 ∷ []) $ done !
+          qed W (raw (Fill .post (to-fill ν γ) v) ∷ []) ∵ updating ! $ use1 W (later ((‵ (flft (ν ∷ []) fullShare) ⊛ ‵ ftrue) ⊛ ‵ (finally TEntry.the-row γ (filledTo n ys limits)) ⊛ raw (fact 𝓤 ((v ≡ vunit) × Did-fill))))
+          (post-of 𝓤 H A W g.signature (g.spec 𝓤 H A mem run) (to-fill ν γ) (sem 𝓤 H A (finally TEntry.the-row γ (filledTo n ys limits))) (tt) nothing-vals nothing-tells said v) $ await ! tt $ at-once ! $ split ! $ split ! $ keep ! (0 ∷ 2 ∷ []) $ done !
         where
-          told : (w : Unit {0}) (zs : List Entry) (r : Unit {0}) (ws : Lasts g.ended (ν ∷ [], tt) (ref TEntry.the-row ys b o γ, (n, (init0, (init1, (init2, tt)))))) → r ≡ w → ws .0 ≡ zs → ent 𝓤 (sem 𝓤 H A (lasts g.ended (ν ∷ [], tt) (ref TEntry.the-row ys b o γ, (n, (init0, (init1, (init2, tt))))) ws)) (sep 𝓤 (sem 𝓤 H A (finally TEntry.the-row γ zs)) (fact 𝓤 (r ≡ w)))
-          told w zs r ws h h′ = qed W (‵ (lasts g.ended (ν ∷ [], tt) (ref TEntry.the-row ys b o γ, (n, (init0, (init1, (init2, tt))))) ws) ∷ []) ∵ fsplit ! $ fsplit ! $ rewrite ! 0 (λ (l : List Entry). ‵ (finally TEntry.the-row γ l)) h′ refl $ frame ! $ check ! h $ nothing ! $ keep ! (0 ∷ []) $ done !
+          told : (w : Unit {0}) (zs : List Entry) (r : Unit {0}) (ws : Lasts g.ended (ν ∷ [], tt) (ref TEntry.the-row ys b o γ, (n, (limits, tt)))) → r ≡ w → ws .0 ≡ zs → ent 𝓤 (sem 𝓤 H A (lasts g.ended (ν ∷ [], tt) (ref TEntry.the-row ys b o γ, (n, (limits, tt))) ws)) (sep 𝓤 (sem 𝓤 H A (finally TEntry.the-row γ zs)) (fact 𝓤 (r ≡ w)))
+          told w zs r ws h h′ = qed W (‵ (lasts g.ended (ν ∷ [], tt) (ref TEntry.the-row ys b o γ, (n, (limits, tt))) ws) ∷ []) ∵ fsplit ! $ fsplit ! $ rewrite ! 0 (λ (l : List Entry). ‵ (finally TEntry.the-row γ l)) h′ refl $ frame ! $ check ! h $ nothing ! $ keep ! (0 ∷ []) $ done !
 
-          said : (r : Unit {0}) → ent 𝓤 (g.spec 𝓤 H A mem run (ν ∷ [], tt) (ref TEntry.the-row ys b o γ, (n, (init0, (init1, (init2, tt))))) .ensures tt r) (sep 𝓤 (sem 𝓤 H A (finally TEntry.the-row γ (filledTo n ys init0 init1 init2))) (fact 𝓤 (r ≡ tt)))
-          said r = exE 𝓤 _ (λ (ws : Lasts g.ended (ν ∷ [], tt) (ref TEntry.the-row ys b o γ, (n, (init0, (init1, (init2, tt)))))). qed W (‵ (lasts g.ended (ν ∷ [], tt) (ref TEntry.the-row ys b o γ, (n, (init0, (init1, (init2, tt))))) ws) ∷ raw (fact 𝓤 (ws .0 ≡ filledTo n ys init0 init1 init2)) ∷ []) ∵ move ! (1 ∷ []) $ heard ! (ws .0 ≡ filledTo n ys init0 init1 init2) (λ h. by ! (told (tt) (filledTo n ys init0 init1 init2) r ws (refl) (h))))
+          said : (r : Unit {0}) → ent 𝓤 (g.spec 𝓤 H A mem run (ν ∷ [], tt) (ref TEntry.the-row ys b o γ, (n, (limits, tt))) .ensures tt r) (sep 𝓤 (sem 𝓤 H A (finally TEntry.the-row γ (filledTo n ys limits))) (fact 𝓤 (r ≡ tt)))
+          said r = exE 𝓤 _ (λ (ws : Lasts g.ended (ν ∷ [], tt) (ref TEntry.the-row ys b o γ, (n, (limits, tt)))). qed W (‵ (lasts g.ended (ν ∷ [], tt) (ref TEntry.the-row ys b o γ, (n, (limits, tt))) ws) ∷ raw (fact 𝓤 (ws .0 ≡ filledTo n ys limits)) ∷ []) ∵ move ! (1 ∷ []) $ heard ! (ws .0 ≡ filledTo n ys limits) (λ h. by ! (told (tt) (filledTo n ys limits) r ws (refl) (h))))

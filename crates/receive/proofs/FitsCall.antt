@@ -24,7 +24,7 @@ use denote.Struct.Laws as LL
 use denote.Triple.Spec.{tripleOf}
 use denote.Triple.Clauses.{lasts, Lasts}
 use denote.Triple.Statement.{Contract}
-use Rattle.streams.specs.Fits.{fits}
+use Rattle.limits.specs.Fits.{fits}
 use Rattle.streams.specs.declared.Conn.{Conn}
 use Rattle.streams.proofs.Conn as TConn
 use Rattle.streams.proofs.Conn.Laws as TConn′

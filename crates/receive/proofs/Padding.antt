@@ -16,38 +16,47 @@ use Rattle.frames.specs.declared.Kind.{Kind}
 use Rattle.frames.proofs.Order.{padding}
 use Rattle.streams.specs.declared.Conn.{Conn}
 use Rattle.streams.specs.declared.Entry.{Entry}
-use Rattle.streams.specs.declared.View.the-variants.{Plain}
-use Rattle.streams.specs.Entry.{placeOf, fresh, entryAt}
+use Rattle.rules.specs.declared.View.the-variants.{Nothing}
+use Rattle.halves.specs.Stream.{placeOf}
+use Rattle.streams.specs.Entry.{fresh, entryAt}
 use Rattle.streams.specs.Conn.{isOpen}
-use Rattle.streams.specs.Frames.{ruledOf, connAfter, entryAfter, settledOf, judgedOf}
+use Rattle.rules.specs.Verdict.{verdictOf, connHeard, entryHeard, settledOf, judgedOf}
 use Rattle.packets.specs.declared.Stopped.{Stopped}
-use Rattle.taking.specs.declared.Turned.{Turned}
-use Rattle.taking.specs.Step.{askedOf, askedAt, turnOf}
-use Rattle.taking.specs.Past.{pastOf, pastPadding}
-use Rattle.receive.specs.Walk.{turnAt, stopped, walkFrom}
+use Rattle.steps.specs.declared.Decided.{Decided}
+use Rattle.steps.specs.Step.{requestOf, requestAt, decidedOf}
+use Rattle.steps.specs.Past.{pastOf, pastPadding}
+use Rattle.answers.proofs.Choice.{through}
+use Rattle.receive.specs.Walk.{decidedAt, stopped, Walked, walkFrom}
+
+-- where a walk stopped and the table, whatever it heard
+abbrev pub bare : Walked → Stopped × List Entry
+bare w = (w .stop, w .table)
+
+abbrev pub reached : ℕ → Conn → List Entry → List ℕ → ℕ → Kind → Stopped × List Entry
+reached k c t s at kind = bare (walkFrom k c t s at kind)
 
 module _ (s : List ℕ) (kind : Kind) (c : Conn) (t : List Entry) where
   -- what a PADDING byte asks, and what it leaves
-  asks : (at : ℕ) → at < length s → getD s at 0 ≡ 0 → askedAt s at kind ≡ record { place = placeOf 0; next = at + 1; ty = 0; answer = Accepted; view = Plain }
-  unfolding askedAt askedOf
+  asks : (at : ℕ) → at < length s → getD s at 0 ≡ 0 → requestAt s at kind ≡ record { place = placeOf 0; next = at + 1; ty = 0; answer = Accepted; view = Nothing }
+  unfolding requestAt requestOf
   asks at l z = rw (padding s at kind l z) refl
 
   leaves : (at : ℕ) → at < length s → getD s at 0 ≡ 0
-      → turnAt c t s at kind ≡ record { stepped = record { conn = c; answer = Accepted; more = isOpen (c .mark); next = at + 1 }; entry = entryAt t (placeOf 0) }
-  unfolding turnAt turnOf judgedOf settledOf ruledOf connAfter entryAfter
+      → decidedAt c t s at kind ≡ record { stepped = record { conn = c; answer = Accepted; more = isOpen (c .mark); next = at + 1 }; entry = entryAt t (placeOf 0) }
+  unfolding decidedAt decidedOf judgedOf settledOf verdictOf connHeard entryHeard
   leaves at l z = rw (asks at l z) refl
 
   -- what a walk makes of a frame that leaves x, having looked at a place
-  abbrev goes : ℕ → ℕ → Turned → ℕ → Stopped × List Entry
+  abbrev goes : ℕ → ℕ → Decided → ℕ → Stopped × List Entry
   goes k at x place =
-      x .stepped .more ⇒ walkFrom k (x .stepped .conn) (set t place (x .entry)) s (x .stepped .next) kind
+      x .stepped .more ⇒ reached k (x .stepped .conn) (set t place (x .entry)) s (x .stepped .next) kind
       ∣ (stopped (x .stepped .conn) at (x .stepped .answer), set t place (x .entry))
 
-  stepped-on : (k at : ℕ) → at < length s → walkFrom (suc k) c t s at kind ≡ goes k at (turnAt c t s at kind) (askedAt s at kind .place)
+  stepped-on : (k at : ℕ) → at < length s → reached (suc k) c t s at kind ≡ goes k at (decidedAt c t s at kind) (requestAt s at kind .place)
   unfolding walkFrom
-  stepped-on k at l = rw (lt-leb (length s) at l) refl
+  stepped-on k at l = rw (lt-leb (length s) at l) (through bare (decidedAt c t s at kind .stepped .more) _ _)
 
-  one : (k at : ℕ) → at < length s → getD s at 0 ≡ 0 → isOpen (c .mark) ≡ true → walkFrom (suc k) c t s at kind ≡ walkFrom k c t s (suc at) kind
+  one : (k at : ℕ) → at < length s → getD s at 0 ≡ 0 → isOpen (c .mark) ≡ true → reached (suc k) c t s at kind ≡ reached k c t s (suc at) kind
   one k at l z h = stepped-on k at l ∙ (λ i. goes k at (leaves at l z i) (asks at l z i .place)) ∙ rw (h, set-getD t (placeOf 0) (fresh 0), add-one) refl
 
   -- a walk that is the same from a place further on, with enough steps left
@@ -56,7 +65,7 @@ module _ (s : List ℕ) (kind : Kind) (c : Conn) (t : List Entry) where
     pub no-more : steps ≤ k
     pub ahead : at ≤ place
     pub left : length s ≤ steps + place
-    pub same : walkFrom steps c t s place kind ≡ walkFrom k c t s at kind
+    pub same : reached steps c t s place kind ≡ reached k c t s at kind
 
   abbrev Still : ℕ → Type 0
   Still at = at < length s → isOpen (c .mark) ≡ true

@@ -26,9 +26,9 @@ use denote.Triple.Clauses.{lasts, Lasts}
 use denote.Triple.Statement.{Contract}
 use denote.Triple.Walked.{says}
 use Rattle.receive.specs.Table.{summedTo}
-use Rattle.streams.specs.declared.Summed.{Summed}
-use Rattle.streams.proofs.Summed as TSummed
-use Rattle.streams.proofs.Summed.Laws as TSummed′
+use Rattle.limits.specs.declared.fits.Summed.{Summed}
+use Rattle.limits.proofs.fits.Summed as TSummed
+use Rattle.limits.proofs.fits.Summed.Laws as TSummed′
 use Rattle.streams.specs.declared.Entry.{Entry}
 use Rattle.streams.proofs.Entry as TEntry
 use Rattle.receive.proofs.Calls.{post-of}

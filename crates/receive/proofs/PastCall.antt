@@ -1,4 +1,4 @@
--- A call of `taking::frame::past_padding` as one step of a walk: what its contract asks, and what it gives.
+-- A call of `steps::frame::past_padding` as one step of a walk: what its contract asks, and what it gives.
 -- Assumes `Given`.
 use mathlib.Core.Path.{_≡_, refl}
 use Prim.Native.Nat.{ℕ, _<_, _^_}
@@ -22,10 +22,10 @@ use denote.Steps.{nothing, owned}
 use denote.Triple.Spec.{tripleOf}
 use denote.Triple.Clauses.{lasts, Lasts}
 use denote.Triple.Statement.{Contract}
-use Rattle.taking.specs.Past.{pastPadding}
+use Rattle.steps.specs.Past.{pastPadding}
 use Rattle.receive.proofs.Calls.{post-of}
 use Rattle.receive.proofs.Lent.{ref, vals}
-use Rattle.taking.proofs.frame.past_padding as g
+use Rattle.steps.proofs.frame.past_padding as g
 
 module _ {M : Type 1} (𝓤 : URA M) (H : Heap 𝓤) (A : Atoms 𝓤) (mem : Memory → SProp 𝓤) (run : Routine → Fun 𝓤) where
   abbrev pub Past : Contract 𝓤

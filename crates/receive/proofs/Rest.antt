@@ -9,10 +9,10 @@ use borrow.Author.Tests.{le-leb, lt-leb, lt-ltb, le-ltb, eqb-true}
 use lib.Dec.{ltb, eqb}
 use Rattle.answers.proofs.Choice.{below-or-not}
 use Rattle.streams.specs.declared.Entry.{Entry}
-use Rattle.streams.specs.declared.Summed.{Summed}
-use Rattle.streams.specs.declared.Summed.the-variants.{To, Unfit}
+use Rattle.limits.specs.declared.fits.Summed.{Summed}
+use Rattle.limits.specs.declared.fits.Summed.the-variants.{To, Unfit}
 use Rattle.streams.specs.Entry.{mostCredit, entryAt}
-use Rattle.streams.specs.Fits.{isFresh, summedOf}
+use Rattle.limits.specs.Fits.{isFresh, summedOf}
 use Rattle.limits.specs.Rest.{openedIn, restOf}
 use Rattle.limits.proofs.Fresh.{fresh-fits, changed-unfit}
 use Rattle.receive.specs.Table.{summedTo, untouchedTo}

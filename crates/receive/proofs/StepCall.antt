@@ -34,9 +34,9 @@ use Rattle.streams.proofs.Conn.Laws as TConn′
 use Rattle.frames.specs.declared.Kind.{Kind}
 use Rattle.frames.proofs.Kind as TKind
 use Rattle.frames.proofs.Kind.Laws as TKind′
-use Rattle.taking.specs.declared.Stepped.{Stepped}
-use Rattle.taking.proofs.Stepped as TStepped
-use Rattle.taking.proofs.Stepped.Laws as TStepped′
+use Rattle.steps.specs.declared.Stepped.{Stepped}
+use Rattle.steps.proofs.Stepped as TStepped
+use Rattle.steps.proofs.Stepped.Laws as TStepped′
 use Rattle.streams.specs.declared.Entry.{Entry}
 use Rattle.streams.proofs.Entry as TEntry
 use Rattle.receive.proofs.Calls.{post-of}

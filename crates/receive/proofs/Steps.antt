@@ -18,12 +18,14 @@ use Rattle.frames.proofs.Codes.{codes}
 use Rattle.frames.proofs.Sound.{sound}
 use Rattle.streams.specs.declared.Conn.{Conn}
 use Rattle.streams.specs.declared.Entry.{Entry}
-use Rattle.streams.specs.Entry.{listed, placeOf, entryAt}
-use Rattle.streams.specs.Conn.{isOpen, markedAs}
-use Rattle.streams.specs.Frames.{accepts, settledOf, judgedOf}
-use Rattle.taking.specs.declared.Asked.{Asked}
-use Rattle.taking.specs.Step.{askedOf, askedAt, turnOf}
-use Rattle.receive.specs.Walk.{turnAt, steppedAt}
+use Rattle.halves.specs.Stream.{listed, placeOf}
+use Rattle.streams.specs.Entry.{entryAt}
+use Rattle.streams.specs.Conn.{isOpen}
+use Rattle.answers.specs.Answers.{accepts}
+use Rattle.rules.specs.Verdict.{settledOf, judgedOf}
+use Rattle.steps.specs.declared.Request.{Request}
+use Rattle.steps.specs.Step.{requestOf, requestAt, decidedOf}
+use Rattle.receive.specs.Walk.{decidedAt, steppedAt}
 
 -- every stream's place is one of the table
 pub place-within : (id : ℕ) → placeOf id < 192
@@ -35,35 +37,35 @@ place-within id = go (ltb (id % 4) 3) (ltb (id / 4) 64) refl refl
     go true false p q = rw (p, q) (omega arith)
     go false b p q = rw p (omega arith)
 
-pub place-low : (s : List ℕ) (at : ℕ) (kind : Kind) → askedAt s at kind .place < 192
-unfolding askedAt askedOf
+pub place-low : (s : List ℕ) (at : ℕ) (kind : Kind) → requestAt s at kind .place < 192
+unfolding requestAt requestOf
 place-low s at kind = go (frameAt s at kind)
   where
-    go : (r : Reading) → askedOf kind at r .place < 192
+    go : (r : Reading) → requestOf kind at r .place < 192
     go (Got frame ty next) = place-within _
     go (Refused answer ty) = omega arith
 
 -- a frame after which the connection is open was read, and ends above its place
 pub steps-on : (c : Conn) (t : List Entry) (s : List ℕ) (at : ℕ) (kind : Kind) → steppedAt c t s at kind .more ≡ true → at < steppedAt c t s at kind .next
-unfolding turnAt askedAt askedOf turnOf markedAs judgedOf settledOf
+unfolding decidedAt requestAt requestOf decidedOf judgedOf settledOf
 steps-on c t s at kind = go (frameAt s at kind) refl
   where
-    barred : (answer : Answer) (ty : ℕ) (e : Entry) → (answer ≡ FrameEncoding) ⊎ (answer ≡ ProtocolViolation) → turnOf c e (askedOf kind at (Refused answer ty)) .stepped .more ≡ false
+    barred : (answer : Answer) (ty : ℕ) (e : Entry) → (answer ≡ FrameEncoding) ⊎ (answer ≡ ProtocolViolation) → decidedOf c e (requestOf kind at (Refused answer ty)) .stepped .more ≡ false
     barred answer ty e (inl p) = rw p refl
     barred answer ty e (inr p) = rw p refl
 
-    go : (r : Reading) → frameAt s at kind ≡ r → turnOf c (entryAt t (askedOf kind at r .place)) (askedOf kind at r) .stepped .more ≡ true → at < turnOf c (entryAt t (askedOf kind at r .place)) (askedOf kind at r) .stepped .next
+    go : (r : Reading) → frameAt s at kind ≡ r → decidedOf c (entryAt t (requestOf kind at r .place)) (requestOf kind at r) .stepped .more ≡ true → at < decidedOf c (entryAt t (requestOf kind at r .place)) (requestOf kind at r) .stepped .next
     go (Got frame ty next) e p = sound s at kind e .above
     go (Refused answer ty) e p = absurd (true≢false (sym p ∙ barred answer ty _ (codes s at kind e)))
 
 -- and the connection after it is open
 pub still-open : (c : Conn) (t : List Entry) (s : List ℕ) (at : ℕ) (kind : Kind) → steppedAt c t s at kind .more ≡ true → isOpen (steppedAt c t s at kind .conn .mark) ≡ true
-unfolding turnAt turnOf
-still-open c t s at kind = go (askedAt s at kind)
+unfolding decidedAt decidedOf
+still-open c t s at kind = go (requestAt s at kind)
   where
-    go : (a : Asked) → turnOf c (entryAt t (a .place)) a .stepped .more ≡ true → isOpen (turnOf c (entryAt t (a .place)) a .stepped .conn .mark) ≡ true
+    go : (a : Request) → decidedOf c (entryAt t (a .place)) a .stepped .more ≡ true → isOpen (decidedOf c (entryAt t (a .place)) a .stepped .conn .mark) ≡ true
     go a = by-test (accepts (a .answer)) refl
       where
-        by-test : (b : Bool) → accepts (a .answer) ≡ b → turnOf c (entryAt t (a .place)) a .stepped .more ≡ true → isOpen (turnOf c (entryAt t (a .place)) a .stepped .conn .mark) ≡ true
+        by-test : (b : Bool) → accepts (a .answer) ≡ b → decidedOf c (entryAt t (a .place)) a .stepped .more ≡ true → isOpen (decidedOf c (entryAt t (a .place)) a .stepped .conn .mark) ≡ true
         by-test true e = rw e (λ p. p)
         by-test false e = rw e (λ p. p)

@@ -1,4 +1,4 @@
 pub mod Table
 pub mod Walk
 pub mod Taking
-pub mod Firm
+pub mod Calling

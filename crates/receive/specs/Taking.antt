@@ -5,17 +5,17 @@ use Rattle.answers.specs.Choice.{_⇒_∣_}
 use Rattle.frames.specs.declared.Kind.{Kind}
 use Rattle.streams.specs.declared.Conn.{Conn}
 use Rattle.streams.specs.declared.Entry.{Entry}
-use Rattle.streams.specs.Fits.{fits}
+use Rattle.limits.specs.Fits.{fits}
 use Rattle.packets.specs.declared.Begun.{Begun}
-use Rattle.taking.specs.declared.Gate.{Gate}
-use Rattle.taking.specs.declared.Handed.the-variants.{Nothing}
+use Rattle.steps.specs.declared.Gate.{Gate}
+use Rattle.steps.specs.declared.Shown.the-variants.{Nothing}
 use Rattle.packets.specs.declared.Records.{Records}
 use Rattle.packets.specs.declared.Took.{Took}
-use Rattle.taking.specs.declared.TookFrame.{TookFrame}
+use Rattle.steps.specs.declared.TookFrame.{TookFrame}
 use Rattle.packets.specs.Begin.{beginOf}
 use Rattle.packets.specs.Finish.{finishOf}
-use Rattle.taking.specs.Local.{gateOf}
-use Rattle.taking.specs.Step.{handedAt}
+use Rattle.steps.specs.Gate.{gateOf}
+use Rattle.steps.specs.Step.{shownAt}
 use Rattle.receive.specs.Walk.{steppedAt, stepTable, stoppedOf, walkTable}
 
 -- "A call for one frame (120, 101, then as above) also hands the frame as read to the caller"
@@ -24,8 +24,8 @@ gateAt c t = gateOf (fits c t) (c .mark)
 
 unfoldable pub tookFrameOf : Conn → List Entry → List ℕ → ℕ → Kind → TookFrame
 tookFrameOf c t s at kind =
-    gateAt c t .passes ⇒ record { answer = steppedAt c t s at kind .answer; handed = handedAt s at kind; conn = steppedAt c t s at kind .conn }
-    ∣ record { answer = gateAt c t .answer; handed = Nothing; conn = c }
+    gateAt c t .passes ⇒ record { answer = steppedAt c t s at kind .answer; shown = shownAt s at kind; conn = steppedAt c t s at kind .conn }
+    ∣ record { answer = gateAt c t .answer; shown = Nothing; conn = c }
 
 unfoldable pub frameTable : Conn → List Entry → List ℕ → ℕ → Kind → List Entry
 frameTable c t s at kind =

@@ -2,54 +2,73 @@
 use mathlib.Core.Path.{_≡_}
 use Prim.Native.Nat.{ℕ, zero, suc, _-_, _<_}
 use mathlib.Core.Bool.{true}
-use mathlib.Core.List.{List}
+use mathlib.Core.List.{List, [], _∷_}
 use lib.ListN.{length, set}
 use lib.Dec.{leb}
 use Rattle.answers.specs.Choice.{_⇒_∣_}
+use Rattle.answers.specs.Answers.{accepts}
 use Rattle.answers.specs.declared.Answer.{Answer}
 use Rattle.answers.specs.declared.Answer.the-variants.{Accepted}
 use Rattle.frames.specs.declared.Kind.{Kind}
 use Rattle.streams.specs.declared.Conn.{Conn}
 use Rattle.streams.specs.declared.Entry.{Entry}
+use Rattle.halves.specs.Stream.{entries}
 use Rattle.streams.specs.Entry.{entryAt}
 use Rattle.streams.specs.Conn.{isOpen}
-use Rattle.taking.specs.declared.Stepped.{Stepped}
+use Rattle.rules.specs.declared.View.{View}
+use Rattle.steps.specs.declared.Stepped.{Stepped}
 use Rattle.packets.specs.declared.Stopped.{Stopped}
-use Rattle.taking.specs.declared.Turned.{Turned}
-use Rattle.taking.specs.Step.{askedAt, turnOf}
+use Rattle.steps.specs.declared.Decided.{Decided}
+use Rattle.steps.specs.Step.{requestAt, decidedOf}
 
 -- one frame, judged with the entry that it looks at
-unfoldable pub turnAt : Conn → List Entry → List ℕ → ℕ → Kind → Turned
-turnAt c t s at kind = turnOf c (entryAt t (askedAt s at kind .place)) (askedAt s at kind)
+unfoldable pub decidedAt : Conn → List Entry → List ℕ → ℕ → Kind → Decided
+decidedAt c t s at kind = decidedOf c (entryAt t (requestAt s at kind .place)) (requestAt s at kind)
 
 abbrev pub steppedAt : Conn → List Entry → List ℕ → ℕ → Kind → Stepped
-steppedAt c t s at kind = turnAt c t s at kind .stepped
+steppedAt c t s at kind = decidedAt c t s at kind .stepped
 
 abbrev pub stepTable : Conn → List Entry → List ℕ → ℕ → Kind → List Entry
-stepTable c t s at kind = set t (askedAt s at kind .place) (turnAt c t s at kind .entry)
+stepTable c t s at kind = set t (requestAt s at kind .place) (decidedAt c t s at kind .entry)
+
+-- what it asked of the streams, where it was accepted
+abbrev pub stepHeard : Conn → List Entry → List ℕ → ℕ → Kind → List View
+stepHeard c t s at kind =
+    accepts (steppedAt c t s at kind .answer) ⇒ requestAt s at kind .view ∷ []
+    ∣ []
 
 abbrev pub stopped : Conn → ℕ → Answer → Stopped
 stopped c place answer = record { conn = c; place = place; answer = answer }
 
+-- what a walk leaves: where it stopped and the connection then, the table, and what the accepted frames asked of the streams, one after the other
+pub record Walked : Type 0 where
+  pub stop : Stopped
+  pub table : List Entry
+  pub heard : List View
+
+-- with one accepted frame before
+abbrev pub ahead : View → Walked → Walked
+ahead view w = record { stop = w .stop; table = w .table; heard = view ∷ w .heard }
+
 -- k frames at most, from a place on: to the end of the bytes, or to the frame that is refused or closes the connection
-unfoldable pub walkFrom : ℕ → Conn → List Entry → List ℕ → ℕ → Kind → Stopped × List Entry
-walkFrom zero c t s at kind = (stopped c at Accepted, t)
+unfoldable pub walkFrom : ℕ → Conn → List Entry → List ℕ → ℕ → Kind → Walked
+walkFrom zero c t s at kind = record { stop = stopped c at Accepted; table = t; heard = [] }
 walkFrom (suc k) c t s at kind =
-    leb (length s) at ⇒ (stopped c at Accepted, t)
-    ∣ steppedAt c t s at kind .more ⇒ walkFrom k (steppedAt c t s at kind .conn) (stepTable c t s at kind) s (steppedAt c t s at kind .next) kind
-    ∣ (stopped (steppedAt c t s at kind .conn) at (steppedAt c t s at kind .answer), stepTable c t s at kind)
+    leb (length s) at ⇒ record { stop = stopped c at Accepted; table = t; heard = [] }
+    ∣ steppedAt c t s at kind .more ⇒ ahead (requestAt s at kind .view) (walkFrom k (steppedAt c t s at kind .conn) (stepTable c t s at kind) s (steppedAt c t s at kind .next) kind)
+    ∣ record { stop = stopped (steppedAt c t s at kind .conn) at (steppedAt c t s at kind .answer); table = stepTable c t s at kind; heard = stepHeard c t s at kind }
 
 -- what a walk asks where there are frames: a whole table, and an open connection
 pub record Ready (c : Conn) (t : List Entry) (s : List ℕ) (from : ℕ) : Type 0 where
-  pub whole : from < length s → length t ≡ 192
+  pub whole : from < length s → length t ≡ entries
   pub still-open : from < length s → isOpen (c .mark) ≡ true
 
 -- there are no more frames than bytes
-abbrev pub walkAll : Conn → List Entry → List ℕ → ℕ → Kind → Stopped × List Entry
+abbrev pub walkAll : Conn → List Entry → List ℕ → ℕ → Kind → Walked
 walkAll c t s from kind = walkFrom (length s - from) c t s from kind
 
 abbrev pub stoppedOf : Conn → List Entry → List ℕ → ℕ → Kind → Stopped
-stoppedOf c t s from kind = walkAll c t s from kind .0
+stoppedOf c t s from kind = walkAll c t s from kind .stop
 
 abbrev pub walkTable : Conn → List Entry → List ℕ → ℕ → Kind → List Entry
-walkTable c t s from kind = walkAll c t s from kind .1
+walkTable c t s from kind = walkAll c t s from kind .table

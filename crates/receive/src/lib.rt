@@ -5,39 +5,32 @@ mod whole;
 
 ghost use mathlib.Core.Path.{_≡_};
 ghost use lib.ListN.{length};
-ghost use Rattle.streams.specs.Fits.{fits};
-ghost use Rattle.streams.specs.Frames.{Call, handedOutOf};
-ghost use Rattle.taking.specs.Local.{calledWhen, openedNextWhen, openingWhen};
-ghost use Rattle.receive.specs.Table.{openedTable, raisedStream, raisedTable};
+ghost use Rattle.streams.specs.Conn.{handedOutOf};
+ghost use Rattle.steps.specs.Opening.{openingWhen};
+ghost use Rattle.receive.specs.Table.{openedTable};
 ghost use Rattle.receive.specs.Taking.{tookFrameOf, frameTable, tookOf, tookTable};
+ghost use Rattle.receive.specs.Calling.{calledAt, calledTable};
 use answers::Answer;
+use calls::Call;
 use frames::Kind;
 use packets::Records;
 use packets::Took;
+use steps::Shown;
+use steps::TookFrame;
 use streams::Called;
 use streams::Conn;
 use streams::Entry;
-use streams::Numbered;
+use streams::Limits;
 use streams::Opened;
 use streams::Space;
-use taking::Handed;
-use taking::TookFrame;
 
-// Opens a connection: 120 unless the table has 192 entries, then 103. Every entry is set to its type's initial credit.
-pub fn open(
-    t: &mut [Entry],
-    init0: u64,
-    init1: u64,
-    init2: u64,
-    count0: u64,
-    count2: u64,
-    credit: u64,
-) -> Opened
-    ensures { λ r. ⌜ (r ≡ openingWhen (length (now (t .entry))) init0 init1 init2 count0 count2 credit) × (now (t .exit) ≡ openedTable (now (t .entry)) init0 init1 init2 count0 count2 credit) ⌝ }
+// Opens a connection: 120 unless the table has 192 entries, then 103. Every entry is set to its half's initial credit.
+pub fn open(t: &mut [Entry], limits: Limits) -> Opened
+    ensures { λ r. ⌜ (r ≡ openingWhen (length (now (t .entry))) limits) × (now (t .exit) ≡ openedTable (now (t .entry)) limits) ⌝ }
 {
-    let o = taking::local::open(t.len(), init0, init1, init2, count0, count2, credit);
-    let n = taking::local::entries(o);
-    whole::fill(t, n, init0, init1, init2);
+    let o = steps::opening::open(t.len(), limits);
+    let n = steps::opening::entries(o.answer);
+    whole::fill(t, n, limits);
     o
 }
 
@@ -45,19 +38,19 @@ pub fn open(
 pub fn take_frame(c: Conn, t: &mut [Entry], s: &[u8], at: usize, kind: Kind) -> TookFrame
     ensures { λ r. ⌜ (r ≡ tookFrameOf c (now (t .entry)) (now (s .entry)) at kind) × (now (t .exit) ≡ frameTable c (now (t .entry)) (now (s .entry)) at kind) ⌝ }
 {
-    let g = taking::local::gate(whole::fits(c, t), c.mark);
+    let g = steps::gates::gate(whole::fits(c, t), c.mark);
     if !g.passes {
         return TookFrame {
             answer: g.answer,
-            handed: Handed::Nothing,
+            shown: Shown::Nothing,
             conn: c,
         };
     }
-    let handed = taking::frame::handed(s, at, kind);
+    let shown = steps::frame::show(s, at, kind);
     let r = step::step(c, t, s, at, kind);
     TookFrame {
         answer: r.answer,
-        handed,
+        shown,
         conn: r.conn,
     }
 }
@@ -71,49 +64,26 @@ pub fn take_packet(c: Conn, records: Records, t: &mut [Entry], first: u8, s: &[u
     packets::checks::finish(begun, stopped, records)
 }
 
-// Raises the connection credit.
-pub fn raise_credit(c: Conn, t: &[Entry], new: u64) -> Called
-    ensures { λ r. ⌜ r ≡ calledWhen (fits c (now (t .entry))) c (Call.RaiseCredit new) ⌝ }
-{
-    taking::local::raise_credit(whole::fits(c, t), c, new)
-}
-
-// Raises the stream count of type 0 or 2.
-pub fn raise_count(c: Conn, t: &[Entry], ty: u64, new: u64) -> Called
-    ensures { λ r. ⌜ r ≡ calledWhen (fits c (now (t .entry))) c (Call.RaiseCount ty new) ⌝ }
-{
-    taking::local::raise_count(whole::fits(c, t), c, ty, new)
-}
-
-// Raises a stream's credit.
-pub fn raise_stream(c: Conn, t: &mut [Entry], id: u64, new: u64) -> Called
-    ensures { λ r. ⌜ (r ≡ raisedStream c (now (t .entry)) id new) × (now (t .exit) ≡ raisedTable c (now (t .entry)) id new) ⌝ }
+// Makes a local call: a credit or a count raised, a stream opened.
+pub fn call(c: Conn, t: &mut [Entry], call: Call) -> Called
+    ensures { λ r. ⌜ (r ≡ calledAt c (now (t .entry)) call) × (now (t .exit) ≡ calledTable c (now (t .entry)) call) ⌝ }
 {
     if !whole::fits(c, t) {
         return Called {
             answer: Answer::DoesNotFit,
+            number: 0,
             conn: c,
         };
     }
-    let i = streams::frame::place_of(id);
-    let j = limits::calls::raise_stream(c, t[i], id, new);
+    let i = calls::place(call);
+    let j = calls::judge(c, t[i], call);
     t[i] = j.entry;
-    Called {
-        answer: j.answer,
-        conn: j.conn,
-    }
-}
-
-// Opens the next stream of type 1 or 3.
-pub fn open_stream(c: Conn, t: &[Entry], ty: u64) -> Numbered
-    ensures { λ r. ⌜ r ≡ openedNextWhen (fits c (now (t .entry))) c ty ⌝ }
-{
-    taking::local::open_stream(whole::fits(c, t), c, ty)
+    j.called
 }
 
 // Hands out the next number of a space: it looks at neither the table nor the closing mark.
-pub fn hand_out(c: Conn, space: Space) -> Numbered
+pub fn hand_out(c: Conn, space: Space) -> Called
     ensures { λ r. ⌜ r ≡ handedOutOf c space ⌝ }
 {
-    limits::calls::hand_out(c, space)
+    c.hand_out(space)
 }

@@ -5,9 +5,9 @@ ghost use Rattle.receive.specs.Walk.{steppedAt, stepTable, Ready, stoppe
 use answers::Answer;
 use frames::Kind;
 use packets::Stopped;
+use steps::Stepped;
 use streams::Conn;
 use streams::Entry;
-use taking::Stepped;
 
 // The place where a walk stops, and the answer there.
 pub struct Stop {
@@ -20,9 +20,9 @@ pub(crate) fn step(c: Conn, t: &mut [Entry], s: &[u8], at: usize, kind: Kind) ->
     requires { ⌜ length (now t) ≡ 192 ⌝ }
     ensures { λ r. ⌜ (r ≡ steppedAt c (now (t .entry)) (now (s .entry)) at kind) × (now (t .exit) ≡ stepTable c (now (t .entry)) (now (s .entry)) at kind) ⌝ }
 {
-    let a = taking::frame::ask(s, at, kind);
+    let a = steps::frame::request(s, at, kind);
     let i = a.place;
-    let j = taking::frame::turn(c, t[i], a);
+    let j = steps::frame::decide(c, t[i], a);
     t[i] = j.entry;
     j.stepped
 }
@@ -35,7 +35,7 @@ pub(crate) fn walk(c: Conn, t: &mut [Entry], s: &[u8], from: usize, kind: Kind) 
     let mut conn = c;
     let mut at = from;
     let stop = 'walk: loop {
-        at = taking::frame::past_padding(s, at);
+        at = steps::frame::past_padding(s, at);
         if s.len() <= at {
             break 'walk Stop {
                 place: at,

@@ -1,14 +1,15 @@
-// The whole table: whether it fits its connection, type after type in one pass; and its entries as opening sets them.
+// The whole table: whether it fits its connection, half after half in one pass; and its entries as opening sets them.
 ghost use mathlib.Core.Path.{_≡_};
 ghost use Prim.Native.Nat.{_+_, _-_, _≤_};
 ghost use lib.ListN.{length};
-ghost use Rattle.streams.specs.Fits;
+ghost use Rattle.limits.specs.Fits;
 ghost use Rattle.receive.specs.Table.{summedTo, untouchedTo, filledTo};
+use limits::fits::Summed;
 use streams::Conn;
 use streams::Entry;
-use streams::Summed;
+use streams::Limits;
 
-// Whether the entries of a type from an ordinal up to the last are as opening sets them; the first of them is at a place.
+// Whether the entries of a half from an ordinal up to the last are as opening sets them; the first of them is at a place.
 pub(crate) fn rest(t: &[Entry], from: usize, ordinal: u64, initial: u64) -> bool
     requires { ⌜ from + (64 - ordinal) ≤ length (now t) ⌝ }
     ensures { λ r. ⌜ r ≡ untouchedTo (now (t .entry)) from initial (64 - ordinal) ⌝ }
@@ -24,7 +25,7 @@ pub(crate) fn rest(t: &[Entry], from: usize, ordinal: u64, initial: u64) -> bool
     same
 }
 
-// The check of the 64 entries of a type, from a place on: the opened ones one by one, the rest together.
+// The check of the 64 entries of a half, from a place on: the opened ones one by one, the rest together.
 pub(crate) fn part(
     t: &[Entry],
     from: usize,
@@ -56,20 +57,23 @@ pub(crate) fn fits(c: Conn, t: &[Entry]) -> bool
     if t.len() != 192 {
         return false;
     }
-    let a = part(t, 0, c.credit, c.open0, c.init0, Summed::To { sum: 0 });
-    let b = part(t, 64, c.credit, c.open1, c.init1, a);
-    let d = part(t, 128, c.credit, c.open2, c.init2, b);
+    let p = limits::fits::part_of(c, 0);
+    let a = part(t, 0, p.credit, p.opened, p.initial, Summed::To { sum: 0 });
+    let q = limits::fits::part_of(c, 1);
+    let b = part(t, 64, q.credit, q.opened, q.initial, a);
+    let r = limits::fits::part_of(c, 2);
+    let d = part(t, 128, r.credit, r.opened, r.initial, b);
     limits::fits::conclude(c, d)
 }
 
 // Sets the first n entries as opening does.
-pub(crate) fn fill(t: &mut [Entry], n: usize, init0: u64, init1: u64, init2: u64)
+pub(crate) fn fill(t: &mut [Entry], n: usize, limits: Limits)
     requires { ⌜ n ≤ length (now t) ⌝ }
-    ensures { λ _. ⌜ now (t .exit) ≡ filledTo n (now (t .entry)) init0 init1 init2 ⌝ }
+    ensures { λ _. ⌜ now (t .exit) ≡ filledTo n (now (t .entry)) limits ⌝ }
 {
     let mut i: usize = 0;
     while i < n {
-        t[i] = taking::local::entry(i, init0, init1, init2);
+        t[i] = steps::opening::entry(i, limits);
         i += 1;
     }
 }

@@ -1,5 +1,5 @@
 // The calls that need no connection: splitting a datagram, packet numbers, and a frame read and written again.
-use crate::calls::Alone;
+use crate::commands::Alone;
 use crate::say;
 use datagram::Header;
 use datagram::Kind;

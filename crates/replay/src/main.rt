@@ -1,12 +1,12 @@
 // Calls read from standard input, one a line, each run and answered by one line: a way to try the core from a script.
 mod alone;
-mod asked;
-mod calls;
+mod commands;
 mod line;
 mod rows;
 mod say;
 mod session;
 mod state;
+mod within;
 
 use lines::gather;
 use lines::gather::Line;

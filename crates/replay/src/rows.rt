@@ -1,36 +1,36 @@
-// A line that has ended: read as a call, run, and answered.
+// A line that has ended: read as a command, run, and answered.
 use crate::alone;
-use crate::asked;
-use crate::calls;
-use crate::calls::Call;
+use crate::commands;
+use crate::commands::Command;
 use crate::say;
 use crate::session::Ran;
 use crate::session::Session;
+use crate::within;
 use lines::gather::Line;
 
-fn answer(now: Session, call: Call, s: &[u8], out: &mut [u8; 16384]) -> Ran {
-    match call {
-        Call::Blank => Ran {
+fn answer(now: Session, command: Command, s: &[u8], out: &mut [u8; 16384]) -> Ran {
+    match command {
+        Command::Blank => Ran {
             session: now,
             len: 0,
         },
-        Call::What => Ran {
+        Command::What => Ran {
             session: now,
             len: say::text(out, 0, b"what"),
         },
-        Call::Open {
+        Command::Open {
             init0,
             init1,
             init2,
             count0,
             count2,
             credit,
-        } => asked::open(now, init0, init1, init2, count0, count2, credit, out),
-        Call::Alone { alone } => Ran {
+        } => within::open(now, init0, init1, init2, count0, count2, credit, out),
+        Command::Alone { alone } => Ran {
             session: now,
             len: alone::run(alone, s, out),
         },
-        Call::Asked { asked } => asked::run(now, asked, s, out),
+        Command::Within { within } => within::run(now, within, s, out),
     }
 }
 
@@ -38,8 +38,8 @@ fn answer(now: Session, call: Call, s: &[u8], out: &mut [u8; 16384]) -> Ran {
 fn run(now: Session, s: &[u8]) -> Session {
     let mut bytes = [0u8; 2048];
     let mut out = [0u8; 16384];
-    let call = calls::read(s, &mut bytes);
-    let ran = answer(now, call, &bytes, &mut out);
+    let command = commands::read(s, &mut bytes);
+    let ran = answer(now, command, &bytes, &mut out);
     if 0 < ran.len {
         let len = say::text(&mut out, ran.len, b"\n");
         say::send(&out, len);

@@ -1,17 +1,13 @@
-// What is kept between lines: a connection, if one was opened, its three records and its table.
+// What is kept between lines: whether a connection was opened, that connection, its three records and its table.
+use answers::Answer;
 use packets::Records;
 use records::Record;
 use streams::Conn;
 use streams::Entry;
 
-// The connection, or none so far.
-pub enum Slot {
-    Empty,
-    Holds { conn: Conn },
-}
-
 pub struct Session {
-    pub slot: Slot,
+    pub opened: bool,
+    pub conn: Conn,
     pub records: Records,
     pub table: [Entry; 192],
 }
@@ -33,16 +29,20 @@ pub fn no_records() -> Records {
 
 // The session before a connection is opened.
 pub fn empty() -> Session {
+    let none = Conn::unopened(Answer::Closed);
+    let conn = none.conn;
     Session {
-        slot: Slot::Empty,
+        opened: false,
+        conn,
         records: no_records(),
-        table: held::room(),
+        table: owned::room(),
     }
 }
 
 pub fn of(conn: Conn, records: Records, table: [Entry; 192]) -> Session {
     Session {
-        slot: Slot::Holds { conn },
+        opened: true,
+        conn,
         records,
         table,
     }

@@ -28,17 +28,20 @@ fn largest(out: &mut [u8; 16384], at: usize, before: &[u8], top: u64) -> usize {
 }
 
 fn accounts(out: &mut [u8; 16384], at: usize, c: Conn) -> usize {
+    let limits = c.limits;
+    let counts = limits.counts;
+    let opened = c.opened;
     let o = say::labelled(out, at, b" total=", c.total);
-    let p = say::labelled(out, o, b" credit=", c.credit);
-    let q = say::labelled(out, p, b" counts=", c.count0);
-    let r = say::labelled(out, q, b",", c.count2);
-    let s = say::labelled(out, r, b" opened=", c.open0);
-    let t = say::labelled(out, s, b",", c.open1);
-    let u = say::labelled(out, t, b",", c.open2);
-    say::labelled(out, u, b",", c.open3)
+    let p = say::labelled(out, o, b" credit=", limits.credit);
+    let q = say::labelled(out, p, b" counts=", counts[0]);
+    let r = say::labelled(out, q, b",", counts[1]);
+    let s = say::labelled(out, r, b" opened=", opened[0]);
+    let t = say::labelled(out, s, b",", opened[1]);
+    let u = say::labelled(out, t, b",", opened[2]);
+    say::labelled(out, u, b",", opened[3])
 }
 
-// Writes a blank and STATE behind an answer, which is then whole.
+// Writes a blank and STATE after an answer, which is then whole.
 pub fn end(
     out: &mut [u8; 16384],
     at: usize,

@@ -9,37 +9,37 @@ use Rattle.answers.specs.declared.Answer.the-variants.{ProtocolViolation}
 use Rattle.streams.specs.declared.Mark.{Mark}
 use Rattle.streams.specs.declared.Mark.the-variants.{Open, Code, ByPeer}
 use Rattle.streams.specs.Conn.{isOpen}
-use Rattle.taking.specs.declared.Handed.{Handed}
-use Rattle.taking.specs.declared.Handed.the-variants.{Nothing, Named, Whole}
-use Rattle.taking.specs.declared.TookFrame.{TookFrame}
+use Rattle.steps.specs.declared.Shown.{Shown}
+use Rattle.steps.specs.declared.Shown.the-variants.{Nothing, Typed, Whole}
+use Rattle.steps.specs.declared.TookFrame.{TookFrame}
 use Rattle.columns.specs.Row.{fieldOf, rowOf, closedText}
-use Rattle.columns.specs.declared.Shown.{Shown}
-use Rattle.columns.specs.declared.Shown.the-variants.{Is, Unread}
+use Rattle.columns.specs.declared.FrameType.{FrameType}
+use Rattle.columns.specs.declared.FrameType.the-variants.{Is, Unread}
 
 -- "at most 65,527 bytes"
 unfoldable pub tooLong : ℕ → Bool
 tooLong n = ltb 65527 n
 
 -- "its type ("-" if unreadable)"
-unfoldable pub typeShown : Handed → Shown
+unfoldable pub typeShown : Shown → FrameType
 typeShown Nothing = Unread
-typeShown (Named ty) = Is ty
+typeShown (Typed ty) = Is ty
 typeShown (Whole frame ty next) = Is ty
 
 -- "byte place of the frame, its type, its answer, total after it"
 unfoldable pub takenRowOf : ℕ → TookFrame → List ℕ
-takenRowOf place took = rowOf place (typeShown (took .handed)) (numberOf (took .answer)) (took .conn .total)
+takenRowOf place took = rowOf place (typeShown (took .shown)) (numberOf (took .answer)) (took .conn .total)
 
--- the place after a frame that was handed over whole
-unfoldable pub nextIn : Handed → ℕ → ℕ
+-- the place after a frame that was shown whole
+unfoldable pub nextIn : Shown → ℕ → ℕ
 nextIn Nothing end = end
-nextIn (Named ty) end = end
+nextIn (Typed ty) end = end
 nextIn (Whole frame ty next) end = next
 
 -- where the next frame stands: a closed connection takes none, as at the end
 unfoldable pub afterOf : TookFrame → ℕ → ℕ
 afterOf took end =
-    isOpen (took .conn .mark) ⇒ nextIn (took .handed) end
+    isOpen (took .conn .mark) ⇒ nextIn (took .shown) end
     ∣ end
 
 -- how the connection stands in the end: a payload of n bytes without frames breaks the protocol

@@ -3,10 +3,10 @@ ghost use mathlib.Core.Path.{_≡_};
 ghost use Rattle.wire.specs.Writing.{Bytes, writes};
 ghost use Rattle.rows.specs.Listing.{tooLong, typeShown, takenRowOf, afterOf, lastOf, endingOf};
 use answers::Answer;
-use columns::Shown;
+use columns::FrameType;
+use steps::Shown;
+use steps::TookFrame;
 use streams::Mark;
-use taking::Handed;
-use taking::TookFrame;
 use text::put;
 use wire::Wrote;
 
@@ -17,17 +17,17 @@ pub fn too_long(n: usize) -> bool
     65527 < n
 }
 
-fn shown(handed: Handed) -> Shown
-    ensures { λ r. ⌜ r ≡ typeShown handed ⌝ }
+fn type_shown(shown: Shown) -> FrameType
+    ensures { λ r. ⌜ r ≡ typeShown shown ⌝ }
 {
-    match handed {
-        Handed::Nothing => Shown::Unread,
-        Handed::Named { ty } => Shown::Is { ty },
-        Handed::Whole {
+    match shown {
+        Shown::Nothing => FrameType::Unread,
+        Shown::Typed { ty } => FrameType::Is { ty },
+        Shown::Whole {
             frame: _,
             ty,
             next: _,
-        } => Shown::Is { ty },
+        } => FrameType::Is { ty },
     }
 }
 
@@ -35,8 +35,8 @@ fn shown(handed: Handed) -> Shown
 pub fn taken_row(out: &mut [u8], at: usize, place: usize, took: TookFrame) -> Wrote
     ensures { λ r. ⌜ (r, now (out .exit)) ≡ writes (Bytes (takenRowOf place took)) (now (out .entry)) at ⌝ }
 {
-    let handed = took.handed;
-    let ty = shown(handed);
+    let shown = took.shown;
+    let ty = type_shown(shown);
     let answer = took.answer;
     let code = answer.number();
     let conn = took.conn;
@@ -52,11 +52,11 @@ pub fn after(took: TookFrame, end: usize) -> usize
     if !mark.is_open() {
         return end;
     }
-    let handed = took.handed;
-    match handed {
-        Handed::Nothing => end,
-        Handed::Named { ty: _ } => end,
-        Handed::Whole {
+    let shown = took.shown;
+    match shown {
+        Shown::Nothing => end,
+        Shown::Typed { ty: _ } => end,
+        Shown::Whole {
             frame: _,
             ty: _,
             next,

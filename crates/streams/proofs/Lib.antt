@@ -1,6 +1,2 @@
-pub mod Accepts
-pub mod Rest
-pub mod Others
-pub mod Tests
-pub mod Taken
+pub mod Halves
 pub mod Unique

@@ -1,55 +1,90 @@
--- A connection: what is open and what may be opened of each type, and how its parts change.
-use Prim.Native.Nat.{ℕ, zero, suc, _+_, _/_, _%_, max}
+-- A connection in its parts: what it advertises, what is open of each half, the total, the numbers handed out and the mark; and how each part changes.
+use Prim.Native.Nat.{ℕ, zero, suc, _+_, _/_, max}
 use mathlib.Core.Bool.{Bool, true, false}
-use lib.Dec.{eqb}
+use lib.ListN.{getD, set}
+use lib.Dec.{ltb}
 use Rattle.answers.specs.Choice.{_⇒_∣_}
+use Rattle.answers.specs.declared.Answer.the-variants.{Accepted, AboveCeiling}
+use Rattle.frames.specs.declared.Kind as kinds
+use Rattle.frames.specs.declared.Kind.the-variants as Kind'
+use Rattle.halves.specs.Stream.{halfOf, ordinalOf, peers}
+use Rattle.streams.specs.Entry.{mostCredit}
+use Rattle.streams.specs.declared.Called.{Called}
 use Rattle.streams.specs.declared.Conn.{Conn}
+use Rattle.streams.specs.declared.Limits.{Limits}
 use Rattle.streams.specs.declared.Mark.{Mark}
 use Rattle.streams.specs.declared.Mark.the-variants.{Open, Code, ByPeer}
+use Rattle.streams.specs.declared.Space.{Space}
+use Rattle.streams.specs.declared.Space.the-variants.{Initial, Handshake, Application}
 
 abbrev pub isOpen : Mark → Bool
 isOpen Open = true
 isOpen (Code answer ty) = false
 isOpen ByPeer = false
 
--- how many streams of a type are open
+-- with another mark, and with other limits: nothing else changes
+abbrev pub markedAs : Conn → Mark → Conn
+markedAs c mark = record { limits = c .limits; opened = c .opened; total = c .total; next = c .next; mark = mark }
+
+abbrev pub limitedTo : Conn → Limits → Conn
+limitedTo c limits = record { limits = limits; opened = c .opened; total = c .total; next = c .next; mark = c .mark }
+
+-- ---- what is advertised
+
+-- the count of the peer's two-way streams comes first, then that of its one-way streams
+abbrev pub advertisedOf : Limits → ℕ → ℕ
+advertisedOf limits half = getD (limits .counts) (half / 2) 0
+
+-- the initial credits of the three halves that receive
+abbrev pub initialOf : Limits → ℕ → ℕ
+initialOf limits zero = getD (limits .initial) 0 0
+initialOf limits (suc zero) = getD (limits .initial) 1 0
+initialOf limits (suc (suc half)) = getD (limits .initial) 2 0
+
+abbrev pub withCredit : Limits → ℕ → Limits
+withCredit limits credit = record { credit = credit; counts = limits .counts; initial = limits .initial }
+
+abbrev pub withCount : Limits → ℕ → ℕ → Limits
+withCount limits half count = record { credit = limits .credit; counts = set (limits .counts) (half / 2) count; initial = limits .initial }
+
+-- ---- what is open
+
 abbrev pub openedOf : Conn → ℕ → ℕ
-openedOf c zero = c .open0
-openedOf c (suc zero) = c .open1
-openedOf c (suc (suc zero)) = c .open2
-openedOf c (suc (suc (suc n))) = c .open3
+openedOf c half = getD (c .opened) half 0
 
--- the stream count of a type; "for types 1 and 3 the stream count is the number we opened"
-abbrev pub countOf : Conn → ℕ → ℕ
-countOf c zero = c .count0
-countOf c (suc zero) = c .open1
-countOf c (suc (suc zero)) = c .count2
-countOf c (suc (suc (suc n))) = c .open3
+-- the stream count of a half; "For types 1 and 3 the stream count is the number we opened"
+unfoldable pub countOf : Conn → ℕ → ℕ
+countOf c half =
+    peers half ⇒ advertisedOf (c .limits) half
+    ∣ openedOf c half
 
--- the initial stream credit of a type
-abbrev pub initOf : Conn → ℕ → ℕ
-initOf c zero = c .init0
-initOf c (suc zero) = c .init1
-initOf c (suc (suc n)) = c .init2
+-- with the stream open and "all lower ordinals of the type", and the total as given
+abbrev pub openTo : Conn → ℕ → ℕ → Conn
+openTo c id total = record { limits = c .limits; opened = set (c .opened) (halfOf id) (max (openedOf c (halfOf id)) (ordinalOf id + 1)); total = total; next = c .next; mark = c .mark }
 
--- with another closing mark
-unfoldable pub markedAs : Conn → Mark → Conn
-markedAs c mark = record { credit = c .credit; total = c .total; count0 = c .count0; count2 = c .count2; open0 = c .open0; open1 = c .open1; open2 = c .open2; open3 = c .open3; init0 = c .init0; init1 = c .init1; init2 = c .init2; next0 = c .next0; next1 = c .next1; next2 = c .next2; mark = mark }
+-- ---- the numbers handed out
 
--- how many streams of a type are open once the stream is: it "opens all lower ordinals of the type"
-unfoldable pub upTo : ℕ → ℕ → ℕ → ℕ
-upTo ty id n =
-    eqb (id % 4) ty ⇒ max n (id / 4 + 1)
-    ∣ n
+-- "Three spaces: Initial, Handshake, and one for 0-RTT with 1-RTT"
+abbrev pub spaceOf : kinds.Kind → Space
+spaceOf Kind'.Initial = Initial
+spaceOf Kind'.Handshake = Handshake
+spaceOf Kind'.ZeroRtt = Application
+spaceOf Kind'.OneRtt = Application
 
--- with the stream and all lower ordinals of its type open, and the total as given
-unfoldable pub openTo : Conn → ℕ → ℕ → Conn
-openTo c id total = record { credit = c .credit; total = total; count0 = c .count0; count2 = c .count2; open0 = upTo 0 id (c .open0); open1 = upTo 1 id (c .open1); open2 = upTo 2 id (c .open2); open3 = upTo 3 id (c .open3); init0 = c .init0; init1 = c .init1; init2 = c .init2; next0 = c .next0; next1 = c .next1; next2 = c .next2; mark = c .mark }
+abbrev pub indexOf : Space → ℕ
+indexOf Initial = 0
+indexOf Handshake = 1
+indexOf Application = 2
 
--- with the connection credit and the counts of types 0 and 2 as given
-unfoldable pub limited : Conn → ℕ → ℕ → ℕ → Conn
-limited c credit count0 count2 = record { credit = credit; total = c .total; count0 = count0; count2 = count2; open0 = c .open0; open1 = c .open1; open2 = c .open2; open3 = c .open3; init0 = c .init0; init1 = c .init1; init2 = c .init2; next0 = c .next0; next1 = c .next1; next2 = c .next2; mark = c .mark }
+-- the next packet number of a space, and with one number more handed out
+abbrev pub nextOf : Conn → Space → ℕ
+nextOf c space = getD (c .next) (indexOf space) 0
 
--- with the next packet numbers as given
-unfoldable pub numbered : Conn → ℕ → ℕ → ℕ → Conn
-numbered c next0 next1 next2 = record { credit = c .credit; total = c .total; count0 = c .count0; count2 = c .count2; open0 = c .open0; open1 = c .open1; open2 = c .open2; open3 = c .open3; init0 = c .init0; init1 = c .init1; init2 = c .init2; next0 = next0; next1 = next1; next2 = next2; mark = c .mark }
+abbrev pub handedOn : Conn → Space → Conn
+handedOn c space = record { limits = c .limits; opened = c .opened; total = c .total; next = set (c .next) (indexOf space) (nextOf c space + 1); mark = c .mark }
+
+-- "a call hands out the next number of a space, from 0; after 2^62-1 it is 103"; it ignores the closing mark
+unfoldable pub handedOutOf : Conn → Space → Called
+handedOutOf c space =
+    ltb mostCredit (nextOf c space) ⇒ record { answer = AboveCeiling; number = 0; conn = c }
+    ∣ record { answer = Accepted; number = nextOf c space; conn = handedOn c space }

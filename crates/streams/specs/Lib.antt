@@ -1,7 +1,4 @@
 pub mod Entry
 pub mod Conn
 pub mod Opening
-pub mod Rules
-pub mod Calls
-pub mod Frames
-pub mod Fits
+pub mod Small

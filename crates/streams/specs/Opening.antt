@@ -1,24 +1,43 @@
 -- Opening a connection: initial stream credits for types 0, 1 and 2, counts for types 0 and 2, and the connection credit; 103 above a ceiling.
 use Prim.Native.Nat.{ℕ}
-use lib.Dec.{ltb}
+use mathlib.Core.Bool.{Bool, _&&_}
+use mathlib.Core.List.{[], _∷_}
+use lib.ListN.{getD}
+use lib.Dec.{leb}
 use Rattle.answers.specs.Choice.{_⇒_∣_}
-use Rattle.answers.specs.declared.Answer.the-variants.{AboveCeiling}
-use Rattle.streams.specs.Entry.{mostStreams, mostCredit}
+use Rattle.answers.specs.declared.Answer.{Answer}
+use Rattle.answers.specs.declared.Answer.the-variants.{Accepted, AboveCeiling}
+use Rattle.halves.specs.Stream.{mostStreams}
+use Rattle.streams.specs.Entry.{mostCredit}
+use Rattle.streams.specs.Conn.{initialOf}
 use Rattle.streams.specs.declared.Conn.{Conn}
-use Rattle.streams.specs.declared.Mark.the-variants.{Open}
+use Rattle.streams.specs.declared.Limits.{Limits}
+use Rattle.streams.specs.declared.Mark.{Mark}
+use Rattle.streams.specs.declared.Mark.the-variants.{Open, Code}
 use Rattle.streams.specs.declared.Opened.{Opened}
-use Rattle.streams.specs.declared.Opened.the-variants.{As, Refused}
+
+-- "The ceilings belong to the connection: 64 streams a type, credit 2^62-1": no limit is above its own
+unfoldable pub limitsFit : Limits → Bool
+limitsFit limits =
+    leb (limits .credit) mostCredit
+    && (leb (getD (limits .counts) 0 0) mostStreams
+    && (leb (getD (limits .counts) 1 0) mostStreams
+    && (leb (initialOf limits 0) mostCredit
+    && (leb (initialOf limits 1) mostCredit
+    && leb (initialOf limits 2) mostCredit))))
 
 -- nothing is open, nothing counted, no number handed out
-unfoldable pub openedConn : ℕ → ℕ → ℕ → ℕ → ℕ → ℕ → Conn
-openedConn init0 init1 init2 count0 count2 credit = record { credit = credit; total = 0; count0 = count0; count2 = count2; open0 = 0; open1 = 0; open2 = 0; open3 = 0; init0 = init0; init1 = init1; init2 = init2; next0 = 0; next1 = 0; next2 = 0; mark = Open }
+abbrev pub openedConn : Limits → Mark → Conn
+openedConn limits mark = record { limits = limits; opened = 0 ∷ 0 ∷ 0 ∷ 0 ∷ []; total = 0; next = 0 ∷ 0 ∷ 0 ∷ []; mark = mark }
 
-unfoldable pub openingOf : ℕ → ℕ → ℕ → ℕ → ℕ → ℕ → Opened
-openingOf init0 init1 init2 count0 count2 credit =
-    ltb mostCredit init0 ⇒ Refused AboveCeiling
-    ∣ ltb mostCredit init1 ⇒ Refused AboveCeiling
-    ∣ ltb mostCredit init2 ⇒ Refused AboveCeiling
-    ∣ ltb mostStreams count0 ⇒ Refused AboveCeiling
-    ∣ ltb mostStreams count2 ⇒ Refused AboveCeiling
-    ∣ ltb mostCredit credit ⇒ Refused AboveCeiling
-    ∣ As (openedConn init0 init1 init2 count0 count2 credit)
+-- a refused opening gives a connection that advertises nothing and is closed
+abbrev pub noLimits : Limits
+noLimits = record { credit = 0; counts = 0 ∷ 0 ∷ []; initial = 0 ∷ 0 ∷ 0 ∷ [] }
+
+abbrev pub unopenedOf : Answer → Opened
+unopenedOf answer = record { answer = answer; conn = openedConn noLimits (Code answer 0) }
+
+unfoldable pub openingOf : Limits → Opened
+openingOf limits =
+    limitsFit limits ⇒ record { answer = Accepted; conn = openedConn limits Open }
+    ∣ unopenedOf AboveCeiling

@@ -1,13 +1,13 @@
-// Streams and credit (document 01, "Streams and credit"): what a frame does to a connection and to ONE entry of its table, by value.
-pub mod frame;
-mod rules;
-
+// A connection in its parts, and an entry of its stream table (document 01, "Streams and credit"): how they are opened, read and
+// changed, by value. What a frame or a local call may do to them is said by the crates above.
 ghost use mathlib.Core.Path.{_≡_};
+ghost use Prim.Native.Nat.{_<_, max};
+ghost use Rattle.halves.specs.Stream.{halfOf};
 ghost use Rattle.streams.specs.Entry.{finalOf};
-ghost use Rattle.streams.specs.Conn.{isOpen, openedOf, countOf, markedAs, openTo};
-ghost use Rattle.streams.specs.Calls.{nextOf};
-ghost use Rattle.streams.specs.Opening.{openedConn, openingOf};
+ghost use Rattle.streams.specs.Conn.{isOpen, openedOf, countOf, initialOf, markedAs, openTo, spaceOf, indexOf, nextOf, handedOutOf};
+ghost use Rattle.streams.specs.Opening.{limitsFit, openedConn, unopenedOf, openingOf};
 use answers::Answer;
+use frames::Kind;
 
 // An entry of the stream table. `size` is the final size, and `Entry::UNKNOWN` as long as there is none.
 #[repr(C)]
@@ -30,47 +30,32 @@ pub enum Mark {
     ByPeer,
 }
 
-// A connection's accounts: its credit and the total counted against it; the stream counts of types 0 and 2; how many
-// streams of each type are open; the initial credits of types 0, 1 and 2; the next packet number of each space.
-pub struct Conn {
+// What a connection advertises: its credit; how many two-way and how many one-way streams the peer may open; and the
+// initial credit of a stream of each half that receives.
+pub struct Limits {
     pub credit: u64,
+    pub counts: [u64; 2],
+    pub initial: [u64; 3],
+}
+
+// A connection: what it advertises, how many streams of each half are open, the total counted against its credit, the
+// next packet number of each space, and its closing mark.
+pub struct Conn {
+    pub limits: Limits,
+    pub opened: [u64; 4],
     pub total: u64,
-    pub count0: u64,
-    pub count2: u64,
-    pub open0: u64,
-    pub open1: u64,
-    pub open2: u64,
-    pub open3: u64,
-    pub init0: u64,
-    pub init1: u64,
-    pub init2: u64,
-    pub next0: u64,
-    pub next1: u64,
-    pub next2: u64,
+    pub next: [u64; 3],
     pub mark: Mark,
 }
 
-// What opening a connection answers.
-pub enum Opened {
-    As { conn: Conn },
-    Refused { answer: Answer },
-}
-
-// An answer, with the connection and the entry after it.
-pub struct Judged {
+// What opening a connection answers. A refused opening gives a connection that advertises nothing and is closed.
+pub struct Opened {
     pub answer: Answer,
     pub conn: Conn,
-    pub entry: Entry,
 }
 
-// A local call's answer, with the connection after it.
+// What a call answers: a number where it hands one out, else 0; and the connection after it.
 pub struct Called {
-    pub answer: Answer,
-    pub conn: Conn,
-}
-
-// The same of a call that hands out a number, a stream's or a packet's; 0 on refusal.
-pub struct Numbered {
     pub answer: Answer,
     pub number: u64,
     pub conn: Conn,
@@ -83,22 +68,6 @@ pub enum Space {
     Application,
 }
 
-// What a frame asks of the streams.
-pub enum View {
-    Ends { id: u64, end: u64, fin: bool },
-    Blocks { id: u64 },
-    Sends { id: u64 },
-    Acks { space: Space, largest: u64 },
-    Closes,
-    Plain,
-}
-
-// The sum of the ends so far, or an entry that does not fit.
-pub enum Summed {
-    To { sum: u64 },
-    Unfit,
-}
-
 impl Entry {
     // Above every size that a stream can have.
     pub const UNKNOWN: u64 = 18446744073709551615;
@@ -106,7 +75,7 @@ impl Entry {
     pub fn known(self) -> Final
         ensures { λ r. ⌜ r ≡ finalOf (self .size) ⌝ }
     {
-        if self.size == 18446744073709551615 {
+        if self.size == Entry::UNKNOWN {
             return Final::Unknown;
         }
         Final::Known { size: self.size }
@@ -125,95 +94,136 @@ impl Mark {
     }
 }
 
+impl Space {
+    // The space of a packet: 0-RTT and 1-RTT share one.
+    pub fn of(kind: Kind) -> Space
+        ensures { λ r. ⌜ r ≡ spaceOf kind ⌝ }
+    {
+        match kind {
+            Kind::Initial => Space::Initial,
+            Kind::Handshake => Space::Handshake,
+            Kind::ZeroRtt => Space::Application,
+            Kind::OneRtt => Space::Application,
+        }
+    }
+
+    // Where its next number stands.
+    fn index(self) -> usize
+        ensures { λ r. ⌜ (r ≡ indexOf self) × (r < 3) ⌝ }
+    {
+        match self {
+            Space::Initial => 0,
+            Space::Handshake => 1,
+            Space::Application => 2,
+        }
+    }
+}
+
+impl Limits {
+    // None is above its ceiling.
+    pub fn fit(self) -> bool
+        ensures { λ r. ⌜ r ≡ limitsFit self ⌝ }
+    {
+        if Conn::MOST_CREDIT < self.credit {
+            return false;
+        }
+        if Conn::MOST_STREAMS < self.counts[0] {
+            return false;
+        }
+        if Conn::MOST_STREAMS < self.counts[1] {
+            return false;
+        }
+        if Conn::MOST_CREDIT < self.initial[0] {
+            return false;
+        }
+        if Conn::MOST_CREDIT < self.initial[1] {
+            return false;
+        }
+        self.initial[2] <= Conn::MOST_CREDIT
+    }
+
+    // The initial credit of a stream of a half.
+    pub fn initial_of(self, half: usize) -> u64
+        ensures { λ r. ⌜ r ≡ initialOf self half ⌝ }
+    {
+        match half {
+            0 => self.initial[0],
+            1 => self.initial[1],
+            _ => self.initial[2],
+        }
+    }
+}
+
 impl Conn {
     // The ceilings: 64 streams a type, and 2^62-1 for each credit.
-    pub const MOST_STREAMS: u64 = 64;
+    pub const MOST_STREAMS: u64 = halves::Stream::MOST;
 
     pub const MOST_CREDIT: u64 = 4611686018427387903;
 
+    // The entries of a table: 64 for each half that receives.
+    pub const ENTRIES: usize = 192;
+
     // Nothing is open, nothing counted, no number handed out.
-    fn fresh(init0: u64, init1: u64, init2: u64, count0: u64, count2: u64, credit: u64) -> Conn
-        ensures { λ r. ⌜ r ≡ openedConn init0 init1 init2 count0 count2 credit ⌝ }
+    fn fresh(limits: Limits, mark: Mark) -> Conn
+        ensures { λ r. ⌜ r ≡ openedConn limits mark ⌝ }
     {
         Conn {
-            credit,
+            limits,
+            opened: [0; 4],
             total: 0,
-            count0,
-            count2,
-            open0: 0,
-            open1: 0,
-            open2: 0,
-            open3: 0,
-            init0,
-            init1,
-            init2,
-            next0: 0,
-            next1: 0,
-            next2: 0,
-            mark: Mark::Open,
+            next: [0; 3],
+            mark,
         }
     }
 
     // A connection that was just opened, or 103 for a limit above its ceiling.
-    pub fn open(init0: u64, init1: u64, init2: u64, count0: u64, count2: u64, credit: u64) -> Opened
-        ensures { λ r. ⌜ r ≡ openingOf init0 init1 init2 count0 count2 credit ⌝ }
+    pub fn open(limits: Limits) -> Opened
+        ensures { λ r. ⌜ r ≡ openingOf limits ⌝ }
     {
-        if Conn::MOST_CREDIT < init0 {
-            return Opened::Refused {
-                answer: Answer::AboveCeiling,
+        if limits.fit() {
+            return Opened {
+                answer: Answer::Accepted,
+                conn: Conn::fresh(limits, Mark::Open),
             };
         }
-        if Conn::MOST_CREDIT < init1 {
-            return Opened::Refused {
-                answer: Answer::AboveCeiling,
-            };
-        }
-        if Conn::MOST_CREDIT < init2 {
-            return Opened::Refused {
-                answer: Answer::AboveCeiling,
-            };
-        }
-        if Conn::MOST_STREAMS < count0 {
-            return Opened::Refused {
-                answer: Answer::AboveCeiling,
-            };
-        }
-        if Conn::MOST_STREAMS < count2 {
-            return Opened::Refused {
-                answer: Answer::AboveCeiling,
-            };
-        }
-        if Conn::MOST_CREDIT < credit {
-            return Opened::Refused {
-                answer: Answer::AboveCeiling,
-            };
-        }
-        Opened::As {
-            conn: Conn::fresh(init0, init1, init2, count0, count2, credit),
+        Conn::unopened(Answer::AboveCeiling)
+    }
+
+    // An opening that is refused.
+    pub fn unopened(answer: Answer) -> Opened
+        ensures { λ r. ⌜ r ≡ unopenedOf answer ⌝ }
+    {
+        let limits = Limits {
+            credit: 0,
+            counts: [0; 2],
+            initial: [0; 3],
+        };
+        Opened {
+            answer,
+            conn: Conn::fresh(limits, Mark::Code { answer, ty: 0 }),
         }
     }
 
-    // How many streams of a type are open.
-    pub fn opened_of(self, ty: u64) -> u64
-        ensures { λ r. ⌜ r ≡ openedOf self ty ⌝ }
+    // How many streams of a stream's half are open.
+    pub fn opened_of(self, id: u64) -> u64
+        ensures { λ r. ⌜ r ≡ openedOf self (halfOf id) ⌝ }
     {
-        match ty {
-            0 => self.open0,
-            1 => self.open1,
-            2 => self.open2,
-            _ => self.open3,
-        }
+        let s = halves::named(id);
+        let half = s.half;
+        self.opened[half]
     }
 
-    // The stream count of a type.
-    fn count_of(self, ty: u64) -> u64
-        ensures { λ r. ⌜ r ≡ countOf self ty ⌝ }
+    // The stream count of a stream's half: what the peer may open, or what we opened.
+    pub fn count_of(self, id: u64) -> u64
+        ensures { λ r. ⌜ r ≡ countOf self (halfOf id) ⌝ }
     {
-        match ty {
-            0 => self.count0,
-            1 => self.open1,
-            2 => self.count2,
-            _ => self.open3,
+        let limits = self.limits;
+        let s = halves::named(id);
+        let half = s.half;
+        match half {
+            0 => limits.counts[0],
+            2 => limits.counts[1],
+            _ => self.opened[half],
         }
     }
 
@@ -221,46 +231,67 @@ impl Conn {
     pub fn next_of(self, space: Space) -> u64
         ensures { λ r. ⌜ r ≡ nextOf self space ⌝ }
     {
-        match space {
-            Space::Initial => self.next0,
-            Space::Handshake => self.next1,
-            Space::Application => self.next2,
-        }
+        let i = space.index();
+        self.next[i]
     }
 
     // With another closing mark, and nothing else changed.
     pub fn marked(self, mark: Mark) -> Conn
         ensures { λ r. ⌜ r ≡ markedAs self mark ⌝ }
     {
+        let limits = self.limits;
+        let opened = self.opened;
+        let next = self.next;
         Conn {
-            credit: self.credit,
+            limits,
+            opened,
             total: self.total,
-            count0: self.count0,
-            count2: self.count2,
-            open0: self.open0,
-            open1: self.open1,
-            open2: self.open2,
-            open3: self.open3,
-            init0: self.init0,
-            init1: self.init1,
-            init2: self.init2,
-            next0: self.next0,
-            next1: self.next1,
-            next2: self.next2,
+            next,
             mark,
         }
     }
 
-    // With the stream and all lower ordinals of its type open, and the total as given.
+    // With the stream and all lower ordinals of its half open, and the total as given.
     pub fn open_to(self, id: u64, total: u64) -> Conn
         ensures { λ r. ⌜ r ≡ openTo self id total ⌝ }
     {
-        let mut c = self;
-        c.total = total;
-        c.open0 = rules::up_to(0, id, self.open0);
-        c.open1 = rules::up_to(1, id, self.open1);
-        c.open2 = rules::up_to(2, id, self.open2);
-        c.open3 = rules::up_to(3, id, self.open3);
-        c
+        let s = halves::named(id);
+        let half = s.half;
+        let mut conn = self;
+        conn.total = total;
+        conn.opened[half] = larger(self.opened[half], s.ordinal + 1);
+        conn
     }
+
+    // Hands out the next number of a space, whatever the closing mark.
+    pub fn hand_out(self, space: Space) -> Called
+        ensures { λ r. ⌜ r ≡ handedOutOf self space ⌝ }
+    {
+        let i = space.index();
+        let number = self.next[i];
+        if Conn::MOST_CREDIT < number {
+            return Called {
+                answer: Answer::AboveCeiling,
+                number: 0,
+                conn: self,
+            };
+        }
+        let mut conn = self;
+        conn.next[i] = number + 1;
+        Called {
+            answer: Answer::Accepted,
+            number,
+            conn,
+        }
+    }
+}
+
+// The larger of two.
+pub fn larger(a: u64, b: u64) -> u64
+    ensures { λ r. ⌜ r ≡ max a b ⌝ }
+{
+    if a < b {
+        return b;
+    }
+    a
 }

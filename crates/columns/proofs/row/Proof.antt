@@ -7,8 +7,8 @@ use Rattle.columns.proofs.Fields.{room-for-type, room-for-code, room-fo
 use Rattle.columns.proofs.row.Statement.{statement}
 use Rattle.columns.proofs.row.Tie as tie
 
-shown-type-requires : tie.Need-shown-type-requires
-shown-type-requires c κs =
+type-field-requires : tie.Need-type-field-requires
+type-field-requires c κs =
     let k = c .before .before in
     let a = k .before .before .before .args in
     room-for-type (a .place) (a .ty) (a .code) (a .total) (k .field .ensures)
@@ -18,7 +18,7 @@ field-requires-2 c κs =
     let h = c .before .before in
     let k = h .before .before .before in
     let a = k .before .before .before .args in
-    room-for-code (a .place) (a .ty) (a .code) (a .total) (k .field .ensures) (h .shown-type .ensures)
+    room-for-code (a .place) (a .ty) (a .code) (a .total) (k .field .ensures) (h .type-field .ensures)
 
 field-requires-3 : tie.Need-field-requires-3
 field-requires-3 c κs =
@@ -26,7 +26,7 @@ field-requires-3 c κs =
     let h = g .before .before .before in
     let k = h .before .before .before in
     let a = k .before .before .before .args in
-    room-for-total (a .place) (a .ty) (a .code) (a .total) (k .field .ensures) (h .shown-type .ensures) (g .field2 .ensures)
+    room-for-total (a .place) (a .ty) (a .code) (a .total) (k .field .ensures) (h .type-field .ensures) (g .field2 .ensures)
 
 array-share-prefix-line : tie.Need-array-share-prefix-line
 array-share-prefix-line c =
@@ -35,7 +35,7 @@ array-share-prefix-line c =
     let h = g .before .before .before in
     let k = h .before .before .before in
     let a = k .before .before .before .args in
-    row-within (a .place) (a .ty) (a .code) (a .total) (k .field .ensures) (h .shown-type .ensures) (g .field2 .ensures) (f .field3 .ensures)
+    row-within (a .place) (a .ty) (a .code) (a .total) (k .field .ensures) (h .type-field .ensures) (g .field2 .ensures) (f .field3 .ensures)
 
 slice-aggregate-bytes : tie.Need-slice-aggregate-bytes
 slice-aggregate-bytes c = sym (length-take-le _ _ (array-share-prefix-line (c .before)))
@@ -48,7 +48,7 @@ returns c =
     let h = g .before .before .before in
     let k = h .before .before .before in
     let a = k .before .before .before .args in
-    let e = row-front (a .place) (a .ty) (a .code) (a .total) (k .field .ensures) (h .shown-type .ensures) (g .field2 .ensures) (f .field3 .ensures) in
+    let e = row-front (a .place) (a .ty) (a .code) (a .total) (k .field .ensures) (h .type-field .ensures) (g .field2 .ensures) (f .field3 .ensures) in
     rw e at (b .bytes .ensures)
 
 pub row-spec : {M : Type 1} → statement M
@@ -58,7 +58,7 @@ row-spec =
     (λ c. search needs)
     (λ c κs. search needs)
     (λ c. search needs)
-    shown-type-requires
+    type-field-requires
     (λ c. search needs)
     field-requires-2
     (λ c. search needs)

@@ -3,7 +3,8 @@
 use mathlib.Core.Path.{_∙_, ap}
 use mathlib.Core.List.{List}
 use borrow.Author.Needs.{needs}
-use Rattle.held.specs.Held.{heldOpenedOf}
+use Rattle.owned.specs.Owned.{ownedOpenedOf}
+use Rattle.streams.specs.Small.{small}
 use Rattle.streams.specs.declared.Entry.{Entry}
 use Rattle.pages.specs.Pages.{smallOf}
 use Rattle.pages.proofs.small.Statement.{statement}
@@ -11,7 +12,7 @@ use Rattle.pages.proofs.small.Tie as tie
 
 returns : tie.Need-returns
 unfolding smallOf
-returns c = c .«open» .ensures ∙ ap (λ (t : List Entry). heldOpenedOf t 16 16 16 4 4 40) (c .before .room .ensures)
+returns c = c .«open» .ensures ∙ ap (λ (t : List Entry). ownedOpenedOf t small) (c .before .room .ensures)
 
 pub small-spec : {M : Type 1} → statement M
 small-spec =

@@ -4,7 +4,7 @@ use borrow.Author.Needs.{needs}
 use mathlib.Core.Path.{_∙_}
 use native.Mathlib.Omega.{arith}
 use borrow.Author.Tests.{eq-eqb, ne-eqb}
-use Rattle.streams.specs.Fits.{concludedOf}
+use Rattle.limits.specs.Fits.{concludedOf}
 use Rattle.limits.proofs.fits.conclude.Statement.{statement}
 use Rattle.limits.proofs.fits.conclude.Tie as tie
 

@@ -3,7 +3,7 @@
 use borrow.Author.Needs.{needs}
 use mathlib.Core.Path.{sym, _∙_}
 use borrow.Author.Tests.{le-leb, lt-leb, lt-ltb, not-true, not-false}
-use Rattle.streams.specs.Fits.{entryFitsAs}
+use Rattle.limits.specs.Fits.{entryFitsAs}
 use Rattle.limits.proofs.fits.entry_fits.Statement.{statement}
 use Rattle.limits.proofs.fits.entry_fits.Tie as tie
 use Rattle.limits.proofs.Fresh.{fresh-fits, changed-unfit}

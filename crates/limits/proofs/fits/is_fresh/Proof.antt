@@ -3,7 +3,7 @@
 use borrow.Author.Needs.{needs}
 use mathlib.Core.Path.{sym, _∙_}
 use borrow.Author.Tests.{eq-eqb, ne-eqb}
-use Rattle.streams.specs.Fits.{isFresh}
+use Rattle.limits.specs.Fits.{isFresh}
 use Rattle.limits.proofs.fits.is_fresh.Statement.{statement}
 use Rattle.limits.proofs.fits.is_fresh.Tie as tie
 

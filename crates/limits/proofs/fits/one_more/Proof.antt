@@ -5,7 +5,7 @@ use mathlib.Core.Path.{sym}
 use native.Mathlib.Omega.{arith}
 use Prim.Native.Nat.{_+_}
 use borrow.Author.Tests.{lt-ltb, le-ltb}
-use Rattle.streams.specs.Fits.{summedOf}
+use Rattle.limits.specs.Fits.{summedOf}
 use Rattle.limits.proofs.fits.one_more.Statement.{statement}
 use Rattle.limits.proofs.fits.one_more.Tie as tie
 

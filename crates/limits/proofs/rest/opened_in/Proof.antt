@@ -1,7 +1,7 @@
 -- `limits::rest::opened_in` meets its contract: the test is that of the definition.
 -- Assumes nothing.
 use borrow.Author.Tests.{lt-ltb, le-ltb}
-use Rattle.streams.specs.Entry.{mostStreams}
+use Rattle.halves.specs.Stream.{mostStreams}
 use Rattle.limits.specs.Rest.{openedIn}
 use Rattle.limits.proofs.rest.opened_in.Statement.{statement}
 use Rattle.limits.proofs.rest.opened_in.Tie as tie

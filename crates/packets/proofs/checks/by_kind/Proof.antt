@@ -2,7 +2,7 @@
 -- Assumes nothing.
 use borrow.Author.Needs.{needs}
 use mathlib.Core.Path.{ap}
-use Rattle.streams.specs.Frames.{spaceOf}
+use Rattle.streams.specs.Conn.{spaceOf}
 use Rattle.packets.proofs.Shared.{shared}
 use Rattle.packets.proofs.checks.by_kind.Statement.{statement}
 use Rattle.packets.proofs.checks.by_kind.Tie as tie

@@ -8,7 +8,7 @@ use Rattle.packets.proofs.checks.closes.Tie as tie
 
 returns : tie.Need-returns
 unfolding closesOf
-returns c = c .left .ensures ∙ rw (c .before .marked .ensures)
+returns c = c .refused .ensures ∙ rw (c .before .marked .ensures)
 
 pub closes-spec : {M : Type 1} → statement M
 closes-spec =

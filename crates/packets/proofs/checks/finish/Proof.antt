@@ -2,7 +2,7 @@
 -- Assumes nothing.
 use borrow.Author.Needs.{needs}
 use Rattle.packets.specs.Finish.{finishOf}
-use Rattle.streams.proofs.Accepts.{refused}
+use Rattle.answers.proofs.Accepts.{refused}
 use Rattle.packets.proofs.checks.finish.Statement.{statement}
 use Rattle.packets.proofs.checks.finish.Tie as tie
 

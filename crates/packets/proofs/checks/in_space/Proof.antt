@@ -15,7 +15,7 @@ unfolding inSpaceOf
 returns c =
     let n = c .before .before in
     let a = n .before .before .before .args in
-    rw (← n .before .size .ensures, ← n .bytes-in .ensures .0, lt-ltb (length (now (a .s))) (n .bytes-in .result) (omega (arith, c .before .if1 .taken))) (c .left .ensures)
+    rw (← n .before .size .ensures, ← n .bytes-in .ensures .0, lt-ltb (length (now (a .s))) (n .bytes-in .result) (omega (arith, c .before .if1 .taken))) (c .refused .ensures)
 
 returns-2 : tie.Need-returns-2
 unfolding inSpaceOf
@@ -24,7 +24,7 @@ returns-2 c =
     let t = r .before in
     let n = t .before .before in
     let a = n .before .before .before .args in
-    rw (← n .before .size .ensures, ← n .bytes-in .ensures .0, le-ltb (length (now (a .s))) (n .bytes-in .result) (omega (arith, t .before .if1 .left)), ← t .truncated .ensures, sym (r .recover .ensures) ∙ c .before .before .answer .given .1) (c .left2 .ensures)
+    rw (← n .before .size .ensures, ← n .bytes-in .ensures .0, le-ltb (length (now (a .s))) (n .bytes-in .result) (omega (arith, t .before .if1 .left)), ← t .truncated .ensures, sym (r .recover .ensures) ∙ c .before .before .answer .given .1) (c .refused2 .ensures)
 
 returns-3 : tie.Need-returns-3
 unfolding inSpaceOf
@@ -33,7 +33,7 @@ returns-3 c =
     let t = r .before in
     let n = t .before .before in
     let a = n .before .before .before .args in
-    rw (← n .before .size .ensures, ← n .bytes-in .ensures .0, le-ltb (length (now (a .s))) (n .bytes-in .result) (omega (arith, t .before .if1 .left)), ← t .truncated .ensures, sym (r .recover .ensures) ∙ c .before .before .before .number .given .1, ← c .before .test-of .ensures) (c .numbered .ensures)
+    rw (← n .before .size .ensures, ← n .bytes-in .ensures .0, le-ltb (length (now (a .s))) (n .bytes-in .result) (omega (arith, t .before .if1 .left)), ← t .truncated .ensures, sym (r .recover .ensures) ∙ c .before .before .before .number .given .1, ← c .before .test-of .ensures) (c .tested .ensures)
 
 pub in-space-spec : {M : Type 1} → statement M
 in-space-spec =

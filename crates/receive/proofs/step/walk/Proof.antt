@@ -50,13 +50,13 @@ use types.Run.{jumps, blocks, Below, again, loops}
 use lib.Dec.{leb, nleb→lt}
 use Rattle.answers.specs.declared.Answer.the-variants.{Accepted}
 use Rattle.streams.specs.Conn.{isOpen}
-use Rattle.taking.specs.Past.{pastPadding}
+use Rattle.steps.specs.Past.{pastPadding}
 use Rattle.receive.proofs.Leave.{leaves}
 use Rattle.receive.specs.Walk.{steppedAt, stepTable, stopped, walkFrom, walkAll, Ready, stoppedOf, walkTable}
 use Rattle.receive.proofs.Calls.{calls-given}
 use Rattle.receive.proofs.Cases.{holds, fails, not-not, splits}
 use Rattle.receive.proofs.Lent.{calls-lent-with}
-use Rattle.receive.proofs.Padding.{Further}
+use Rattle.receive.proofs.Padding.{bare, reached, Further}
 use Rattle.receive.proofs.Padding as padding
 use Rattle.receive.proofs.Steps.{steps-on, still-open}
 use Rattle.streams.specs.declared.Conn.{Conn}
@@ -71,9 +71,9 @@ use Rattle.packets.proofs.Stopped.Laws as TStopped′
 use Rattle.receive.specs.declared.step.Stop.{Stop}
 use Rattle.receive.proofs.step.Stop as TStop
 use Rattle.receive.proofs.step.Stop.Laws as TStop′
-use Rattle.taking.specs.declared.Stepped.{Stepped}
-use Rattle.taking.proofs.Stepped as TStepped
-use Rattle.taking.proofs.Stepped.Laws as TStepped′
+use Rattle.steps.specs.declared.Stepped.{Stepped}
+use Rattle.steps.proofs.Stepped as TStepped
+use Rattle.steps.proofs.Stepped.Laws as TStepped′
 use Rattle.answers.proofs.Answer as TAnswer
 use Rattle.answers.proofs.Answer.Laws as TAnswer′
 use Rattle.streams.specs.declared.Entry.{Entry}
@@ -85,9 +85,9 @@ use Rattle.receive.proofs.step.walk as f
 use Rattle.receive.proofs.step.walk.Statement as stated
 use Rattle.receive.proofs.step.walk.Code as code
 use Rattle.receive.proofs.step.walk.Code.Mir as mir
-use Rattle.taking.proofs.frame.past_padding.Symbol as past-def
-use Rattle.taking.proofs.frame.past_padding.Symbol.{name as #past}
-use Rattle.taking.proofs.frame.past_padding.Met as past-thm
+use Rattle.steps.proofs.frame.past_padding.Symbol as past-def
+use Rattle.steps.proofs.frame.past_padding.Symbol.{name as #past}
+use Rattle.steps.proofs.frame.past_padding.Met as past-thm
 use Rattle.receive.proofs.step.step.Symbol as step-def
 use Rattle.receive.proofs.step.step.Symbol.{name as #step}
 use Rattle.receive.proofs.step.step.Met as step-thm
@@ -141,7 +141,7 @@ module _ {M : Type 1} (𝓤 : URA M) (H : Heap 𝓤) (A : Atoms 𝓤) (W : Given
     ahead : p ≤ i
     still : i < length bs → isOpen (d .mark) ≡ true
     left : length bs ≤ k + i
-    far : walkFrom k d zs bs i kind ≡ walkAll c ys bs p kind
+    far : reached k d zs bs i kind ≡ bare (walkAll c ys bs p kind)
 
   abbrev Nearer : St → St → Type 0
   Nearer s′ s = s′ .k < s .k
@@ -176,16 +176,16 @@ module _ {M : Type 1} (𝓤 : URA M) (H : Heap 𝓤) (A : Atoms 𝓤) (W : Given
   ended d h = stopped d (h .place) (h .answer)
 
   -- the three ways that a turn goes, as equations of the definition
-  over : (k : ℕ) (s : St) → leb (length bs) (i′ s) ≡ true → walkFrom k (s .d) (s .zs) bs (i′ s) kind ≡ (ended (s .d) (at-end s), s .zs)
+  over : (k : ℕ) (s : St) → leb (length bs) (i′ s) ≡ true → reached k (s .d) (s .zs) bs (i′ s) kind ≡ (ended (s .d) (at-end s), s .zs)
   unfolding walkFrom
   over zero s e = refl
   over (suc k) s e = rw e refl
 
-  went : (k : ℕ) (s : St) → leb (length bs) (i′ s) ≡ false → j s .more ≡ true → walkFrom (suc k) (s .d) (s .zs) bs (i′ s) kind ≡ walkFrom k (j s .conn) (new s) bs (j s .next) kind
+  went : (k : ℕ) (s : St) → leb (length bs) (i′ s) ≡ false → j s .more ≡ true → reached (suc k) (s .d) (s .zs) bs (i′ s) kind ≡ reached k (j s .conn) (new s) bs (j s .next) kind
   unfolding walkFrom
   went k s e m = rw (e, m) refl
 
-  fell : (k : ℕ) (s : St) → leb (length bs) (i′ s) ≡ false → j s .more ≡ false → walkFrom (suc k) (s .d) (s .zs) bs (i′ s) kind ≡ (ended (j s .conn) (at-frame s), new s)
+  fell : (k : ℕ) (s : St) → leb (length bs) (i′ s) ≡ false → j s .more ≡ false → reached (suc k) (s .d) (s .zs) bs (i′ s) kind ≡ (ended (j s .conn) (at-frame s), new s)
   unfolding walkFrom
   fell k s e m = rw (e, m) refl
 
@@ -193,15 +193,15 @@ module _ {M : Type 1} (𝓤 : URA M) (H : Heap 𝓤) (A : Atoms 𝓤) (W : Given
   says-at x y e = (ap (λ (w : Stopped × List Entry). w .0) e, ap (λ (w : Stopped × List Entry). w .1) e)
 
   -- what is left from behind the PADDING is what was asked
-  here : (s : St) → walkFrom (further s .steps) (s .d) (s .zs) bs (i′ s) kind ≡ walkAll c ys bs p kind
+  here : (s : St) → reached (further s .steps) (s .d) (s .zs) bs (i′ s) kind ≡ bare (walkAll c ys bs p kind)
   here s = further s .same ∙ s .far
 
   -- a frame is left, and so a step
   one-left : (s : St) → i′ s < length bs → (k : ℕ) × (further s .steps ≡ suc k)
   one-left s l = one-less (further s .steps) (omega (arith, l, further s .left))
 
-  from-one : (s : St) (k : ℕ) → further s .steps ≡ suc k → walkFrom (suc k) (s .d) (s .zs) bs (i′ s) kind ≡ walkAll c ys bs p kind
-  from-one s k e = ap (λ (m : ℕ). walkFrom m (s .d) (s .zs) bs (i′ s) kind) (sym e) ∙ here s
+  from-one : (s : St) (k : ℕ) → further s .steps ≡ suc k → reached (suc k) (s .d) (s .zs) bs (i′ s) kind ≡ bare (walkAll c ys bs p kind)
+  from-one s k e = ap (λ (m : ℕ). reached m (s .d) (s .zs) bs (i′ s) kind) (sym e) ∙ here s
 
   all-done : (s : St) → leb (length bs) (i′ s) ≡ true → Says (ended (s .d) (at-end s)) (s .zs)
   all-done s e = says-at _ _ (sym (over (further s .steps) s e) ∙ here s)
@@ -248,8 +248,8 @@ module _ {M : Type 1} (𝓤 : URA M) (H : Heap 𝓤) (A : Atoms 𝓤) (W : Given
       abbrev At : St → List (Item 𝓤)
       At s = Ctx (s .zs) (s .d) (s .i)
 
-      abbrev Turned : St → Out → SProp 𝓤
-      Turned s = afterTurn 𝓤 H (Below 𝓤 H A Nearer At s) (afterBlock 𝓤 H (afterSeq 𝓤 H (Wp 𝓤 H C Λ En mir.t-4 (atReturn 𝓤 H En Post)) (atReturn 𝓤 H En Post)))
+      abbrev Decided : St → Out → SProp 𝓤
+      Decided s = afterTurn 𝓤 H (Below 𝓤 H A Nearer At s) (afterBlock 𝓤 H (afterSeq 𝓤 H (Wp 𝓤 H C Λ En mir.t-4 (atReturn 𝓤 H En Post)) (atReturn 𝓤 H En Post)))
 
       -- what follows the loop
       finish : (zs : List Entry) (d : Conn) (i : ℕ) (h : Stop) → length zs ≡ length ys → Says (ended d h) zs → Is TConn.the-row d (LL.val TConn.the-type TConn′.the-laws d ∷ []) → Is TStop.the-row h (LL.val TStop.the-type TStop′.the-laws h ∷ []) → Sq W (‵ (row TEntry.the-row fullShare zs b o) ∷ ‵ (fobor κ q (Held TEntry.the-row (length ys) b o γ)) ∷ ‵ (fobs γ (codedHoleys TEntry.the-row .code (heres TEntry.the-row ys))) ∷ ‵ (fauth γ (codedHoleys TEntry.the-row .code (heres TEntry.the-row ys))) ∷ ‵ (flft κ₂ q₂) ∷ ‵ OwnB ∷ ‵ (froom (sliceTy (tyRef erased mut (pointee (TEntry.the-row .written)))) l₁₅ 0) ∷ ‵ (fdies (sliceTy (tyRef erased mut (pointee (TEntry.the-row .written)))) l₁₅) ∷ ‵ (froom (tyRef erased mut (pointee (TEntry.the-row .written))) l₁₄ 0) ∷ ‵ (fdies (tyRef erased mut (pointee (TEntry.the-row .written))) l₁₄) ∷ ‵ (froom TAnswer′.mir l₁₃ 0) ∷ ‵ (fdies TAnswer′.mir l₁₃) ∷ ‵ (froom tyBool l₁₂ 0) ∷ ‵ (fdies tyBool l₁₂) ∷ ‵ (froom (tyInt w64) l₁₁ 0) ∷ ‵ (fdies (tyInt w64) l₁₁) ∷ ‵ (fat fullShare TStop′.mir l₁₀ 0 (LL.val TStop.the-type TStop′.the-laws h)) ∷ ‵ (fdies TStop′.mir l₁₀) ∷ ‵ (froom TStepped′.mir l₉ 0) ∷ ‵ (fdies TStepped′.mir l₉) ∷ ‵ (froom TStop′.mir l₈ 0) ∷ ‵ (fdies TStop′.mir l₈) ∷ ‵ (fat fullShare (tyInt w64) l₇ 0 (vint w64 i)) ∷ ‵ (fdies (tyInt w64) l₇) ∷ ‵ (fat fullShare TConn′.mir l₆ 0 (LL.val TConn.the-type TConn′.the-laws d)) ∷ ‵ (fdies TConn′.mir l₆) ∷ ‵ (fat fullShare TKind′.mir l₅ 0 (EL.val TKind.the-type TKind′.the-laws kind)) ∷ ‵ (fdies TKind′.mir l₅) ∷ ‵ (fat fullShare (tyInt w64) l₄ 0 (vint w64 p)) ∷ ‵ (fdies (tyInt w64) l₄) ∷ ‵ (fat fullShare (sliceTy (tyRef (named 1) imm (tyInt w8))) l₃ 0 (sliceVal (b₂, o₂) (length bs))) ∷ ‵ (fdies (sliceTy (tyRef (named 1) imm (tyInt w8))) l₃) ∷ ‵ (fat fullShare (sliceTy (tyRef (named 0) mut (pointee (TEntry.the-row .written)))) l₂ 0 (sliceVal (b, o) (length ys))) ∷ ‵ (fdies (sliceTy (tyRef (named 0) mut (pointee (TEntry.the-row .written)))) l₂) ∷ ‵ (fat fullShare TConn′.mir l₁ 0 (LL.val TConn.the-type TConn′.the-laws c)) ∷ ‵ (fdies TConn′.mir l₁) ∷ ‵ (froom TStopped′.mir l₀ 0) ∷ ‵ (fdies TStopped′.mir l₀) ∷ []) (runs C Λ En mir.t-4 (atRet En Post))
@@ -276,7 +276,7 @@ module _ {M : Type 1} (𝓤 : URA M) (H : Heap 𝓤) (A : Atoms 𝓤) (W : Given
       gconn : (s : St) → Did-step 𝓤 H A mem run (s .d) (s .zs) b o κ₂ q₂ γ₂ bs b₂ o₂ (i′ s) kind → Is TConn.the-row (j s .conn) (LL.val TConn.the-type TConn′.the-laws (j s .conn) ∷ [])
       gconn s gj = LL.owed TStepped.the-type TStepped′.the-laws (j s) _ gj .0
 
-      turns : (s : St) → Sq W (At s) (runs C Λ En mir.turn-1 (anyQ (Turned s)))
+      turns : (s : St) → Sq W (At s) (runs C Λ En mir.turn-1 (anyQ (Decided s)))
       unfolding afterTurn
       turns s =
           move ! (5 ∷ []) $
@@ -369,5 +369,5 @@ walk-spec 𝓤 H 𝓜 𝓖 𝓡 =
     entered 𝓤 H (tripleOf 𝓤 H (𝓖 .A) f.signature (f.spec 𝓤 H (𝓖 .A) (𝓜 .mem) (𝓡 .run)))
     (tables 𝓤 H 𝓜 𝓡 code.env .C) (tables 𝓤 H 𝓜 𝓡 code.env .Λ) #f code.function (code.unfolded 𝓤 H 𝓜 𝓡)
     (f-meets 𝓤 H (𝓖 .A) (givenOf 𝓤 H 𝓜 𝓖) (𝓜 .mem) (𝓡 .run) (tablesOf 𝓤 H 𝓜 (tables 𝓤 H 𝓜 𝓡 code.env))
-    (cited 𝓤 H (Past 𝓤 H (𝓖 .A) (𝓜 .mem) (𝓡 .run)) 𝓜 𝓡 code.env #past past-def.routine code.calls-taking·frame·past-padding (past-thm.met 𝓤 H 𝓜 𝓖 𝓡))
+    (cited 𝓤 H (Past 𝓤 H (𝓖 .A) (𝓜 .mem) (𝓡 .run)) 𝓜 𝓡 code.env #past past-def.routine code.calls-steps·frame·past-padding (past-thm.met 𝓤 H 𝓜 𝓖 𝓡))
     (cited 𝓤 H (Step 𝓤 H (𝓖 .A) (𝓜 .mem) (𝓡 .run)) 𝓜 𝓡 code.env #step step-def.routine code.calls-receive·step·step (step-thm.met 𝓤 H 𝓜 𝓖 𝓡)))

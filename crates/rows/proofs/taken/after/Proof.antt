@@ -27,7 +27,7 @@ returns-4 : tie.Need-returns-4
 unfolding afterOf nextIn
 returns-4 c =
     let o = c .before .before .before in
-    rw (sym (o .before .is-open .ensures) ∙ not-false _ (o .if1 .left), c .before .handed .given .1)
+    rw (sym (o .before .is-open .ensures) ∙ not-false _ (o .if1 .left), c .before .shown .given .1)
 
 pub after-spec : {M : Type 1} → statement M
 after-spec =

@@ -10,7 +10,7 @@ unfolding takenRowOf
 returns c =
     let r = c .before .before in
     let n = r .before .before .before in
-    rw (← n .before .shown .ensures, ← n .number .ensures) (r .row .ensures)
+    rw (← n .before .type-shown .ensures, ← n .number .ensures) (r .row .ensures)
 
 pub taken-row-spec : {M : Type 1} → statement M
 taken-row-spec =

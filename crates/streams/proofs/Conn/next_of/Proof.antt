@@ -1,25 +1,18 @@
--- `streams::Conn::next_of` meets its contract: the match is that of the definition.
+-- `streams::Conn::next_of` meets its contract: the number stands where its space has its index.
 -- Assumes nothing.
 use borrow.Author.Needs.{needs}
+use mathlib.Core.Path.{refl}
 use Rattle.streams.proofs.Conn.next_of.Statement.{statement}
 use Rattle.streams.proofs.Conn.next_of.Tie as tie
 
 returns : tie.Need-returns
-returns c = rw (c .enum-told .given .1)
-
-returns-2 : tie.Need-returns-2
-returns-2 c = rw (c .enum-told2 .given .1)
-
-returns-3 : tie.Need-returns-3
-returns-3 c = rw (c .enum-told3 .given .1)
+returns c = rw (c .before .index .ensures .0) refl
 
 pub next-of-spec : {M : Type 1} → statement M
 next-of-spec =
     tie.close
     (tie.spec
+    (λ c κs. search needs)
     (λ c. search needs)
     (λ c. search needs)
-    (λ c. search needs)
-    returns
-    returns-2
-    returns-3)
+    returns)

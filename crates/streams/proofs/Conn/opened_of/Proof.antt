@@ -1,18 +1,26 @@
--- `streams::Conn::opened_of` meets its contract: the match is that of the definition; types 3 and above are the rest.
+-- `streams::Conn::opened_of` meets its contract: the number stands where its half has its place.
 -- Assumes nothing.
 use borrow.Author.Needs.{needs}
-use Rattle.streams.proofs.Rest.{opened-rest}
+use native.Mathlib.Omega.{arith}
+use mathlib.Core.Path.{refl}
+use Rattle.halves.proofs.Halves.{half-below}
 use Rattle.streams.proofs.Conn.opened_of.Statement.{statement}
 use Rattle.streams.proofs.Conn.opened_of.Tie as tie
 
-returns-4 : tie.Need-returns-4
-returns-4 c = opened-rest _ _ (c .match .rest .0 .0 .1) (c .match .rest .0 .1) (c .match .rest .1)
+mul-result : tie.Need-mul-result
+mul-result c = record { fits = omega (arith, half-below _ _ (c .named .ensures)) }
+
+element-copy-out-result : tie.Need-element-copy-out-result
+element-copy-out-result c = half-below _ _ (c .named .ensures)
+
+returns : tie.Need-returns
+returns c = rw (c .before .named .ensures) refl
 
 pub opened-of-spec : {M : Type 1} → statement M
 opened-of-spec =
     tie.close
     (tie.spec
-    (λ c. search needs)
-    (λ c. search needs)
-    (λ c. search needs)
-    returns-4)
+    (λ c κs. search needs)
+    mul-result
+    element-copy-out-result
+    returns)

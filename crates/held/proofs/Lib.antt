@@ -1,9 +1,0 @@
-pub mod Arrays
-pub mod CountCall
-pub mod CreditCall
-pub mod FrameCall
-pub mod NextCall
-pub mod OpenCall
-pub mod PacketCall
-pub mod StreamCall
-pub mod Unique

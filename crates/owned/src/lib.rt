@@ -1,0 +1,85 @@
+// A stream table owned by value, for a program that has no memory to lend: each call lends it to crate receive and hands it back.
+ghost use mathlib.Core.Path.{_≡_};
+ghost use lib.ListN.{replicate};
+ghost use Rattle.streams.specs.Entry.{fresh};
+ghost use Rattle.owned.specs.Owned.{ownedOpenedOf, ownedFrameOf, ownedPacketOf, ownedCallOf};
+use calls::Call;
+use frames::Kind;
+use packets::Records;
+use packets::Took;
+use steps::TookFrame;
+use streams::Called;
+use streams::Conn;
+use streams::Entry;
+use streams::Limits;
+use streams::Opened;
+
+pub struct OwnedOpened {
+    pub opened: Opened,
+    pub table: [Entry; 192],
+}
+
+pub struct OwnedFrame {
+    pub took: TookFrame,
+    pub table: [Entry; 192],
+}
+
+pub struct OwnedPacket {
+    pub took: Took,
+    pub table: [Entry; 192],
+}
+
+pub struct OwnedCall {
+    pub called: Called,
+    pub table: [Entry; 192],
+}
+
+// Room for a table: opening does not look at what stands in it.
+pub fn room() -> [Entry; 192]
+    ensures { λ r. ⌜ r ≡ replicate 192 (fresh 0) ⌝ }
+{
+    let e = Entry {
+        credit: 0,
+        end: 0,
+        size: Entry::UNKNOWN,
+    };
+    [e; 192]
+}
+
+pub fn open(table: [Entry; 192], limits: Limits) -> OwnedOpened
+    ensures { λ r. ⌜ r ≡ ownedOpenedOf table limits ⌝ }
+{
+    let mut t = table;
+    let opened = receive::open(&mut t, limits);
+    OwnedOpened { opened, table: t }
+}
+
+pub fn take_frame(c: Conn, table: [Entry; 192], s: &[u8], at: usize, kind: Kind) -> OwnedFrame
+    ensures { λ r. ⌜ r ≡ ownedFrameOf c table (now (s .entry)) at kind ⌝ }
+{
+    let mut t = table;
+    let took = receive::take_frame(c, &mut t, s, at, kind);
+    OwnedFrame { took, table: t }
+}
+
+pub fn take_packet(
+    c: Conn,
+    records: Records,
+    table: [Entry; 192],
+    first: u8,
+    s: &[u8],
+) -> OwnedPacket
+    ensures { λ r. ⌜ r ≡ ownedPacketOf c records table first (now (s .entry)) ⌝ }
+{
+    let mut t = table;
+    let took = receive::take_packet(c, records, &mut t, first, s);
+    OwnedPacket { took, table: t }
+}
+
+pub fn call(c: Conn, table: [Entry; 192], call: Call) -> OwnedCall
+    ensures { λ r. ⌜ r ≡ ownedCallOf c table call ⌝ }
+{
+    let mut t = table;
+    let called = receive::call(c, &mut t, call);
+    OwnedCall { called, table: t }
+}

@@ -1,0 +1,3 @@
+pub mod View
+pub mod Rules
+pub mod Verdict

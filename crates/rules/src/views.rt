@@ -1,0 +1,89 @@
+// What a frame asks of the streams, and the place of the entry that it looks at.
+ghost use mathlib.Core.Path.{_≡_};
+ghost use Rattle.rules.specs.View.{endOf, viewOf, framePlace};
+use crate::View;
+use frames::Frame;
+use frames::Kind;
+use streams::Space;
+
+// Offset plus length, as far as 64 bits hold it.
+fn end_of(offset: u64, len: u64) -> u64
+    ensures { λ r. ⌜ r ≡ endOf offset len ⌝ }
+{
+    if 18446744073709551615 - len < offset {
+        return 18446744073709551615;
+    }
+    offset + len
+}
+
+// What a frame in a packet of this kind asks of the streams.
+pub fn view(kind: Kind, frame: Frame) -> View
+    ensures { λ r. ⌜ r ≡ viewOf kind frame ⌝ }
+{
+    match frame {
+        Frame::Ack {
+            largest,
+            delay: _,
+            count: _,
+            first: _,
+            at: _,
+        } => View::Acks {
+            space: Space::of(kind),
+            largest,
+        },
+        Frame::AckEcn {
+            largest,
+            delay: _,
+            count: _,
+            first: _,
+            at: _,
+            ect0: _,
+            ect1: _,
+            ce: _,
+        } => View::Acks {
+            space: Space::of(kind),
+            largest,
+        },
+        Frame::ResetStream { id, code: _, size } => View::Ends {
+            id,
+            end: size,
+            fin: true,
+        },
+        Frame::StopSending { id, code: _ } => View::ForSender { id },
+        Frame::Stream {
+            id,
+            offset,
+            fin,
+            at: _,
+            len,
+        } => View::Ends {
+            id,
+            end: end_of(offset, len as u64),
+            fin,
+        },
+        Frame::MaxStreamData { id, maximum: _ } => View::ForSender { id },
+        Frame::StreamDataBlocked { id, maximum: _ } => View::Blocks { id },
+        Frame::ConnectionClose {
+            code: _,
+            ty: _,
+            at: _,
+            len: _,
+        } => View::Closes,
+        Frame::ApplicationClose {
+            code: _,
+            at: _,
+            len: _,
+        } => View::Closes,
+        _ => View::Nothing,
+    }
+}
+
+// The place in the table that a frame looks at.
+pub fn place(view: View) -> usize
+    ensures { λ r. ⌜ r ≡ framePlace view ⌝ }
+{
+    match view {
+        View::Ends { id, end: _, fin: _ } => halves::place_of(id),
+        _ => halves::place_of(0),
+    }
+}

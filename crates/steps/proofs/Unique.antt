@@ -1,0 +1,44 @@
+-- The contract of every function that other crates can call is firm: it asks nothing and is an equation of the answer.
+-- Assumes nothing.
+use Rattle.answers.specs.Firm.{FirmAnswer}
+use Rattle.answers.proofs.Firm.{equation}
+use Rattle.steps.proofs.frame.request.Kinds as request
+use Rattle.steps.proofs.frame.request.Reads as request-reads
+use Rattle.steps.proofs.frame.decide.Kinds as decide
+use Rattle.steps.proofs.frame.decide.Reads as decide-reads
+use Rattle.steps.proofs.frame.past_padding.Kinds as past-padding
+use Rattle.steps.proofs.frame.past_padding.Reads as past-padding-reads
+use Rattle.steps.proofs.frame.show.Kinds as show
+use Rattle.steps.proofs.frame.show.Reads as show-reads
+use Rattle.steps.proofs.gates.gate.Kinds as gate
+use Rattle.steps.proofs.gates.gate.Reads as gate-reads
+use Rattle.steps.proofs.opening.open.Kinds as opening
+use Rattle.steps.proofs.opening.open.Reads as opening-reads
+use Rattle.steps.proofs.opening.entries.Kinds as entries
+use Rattle.steps.proofs.opening.entries.Reads as entries-reads
+use Rattle.steps.proofs.opening.entry.Kinds as entry
+use Rattle.steps.proofs.opening.entry.Reads as entry-reads
+
+pub request-firm : FirmAnswer 1 request.ps request.r request-reads.Asked request-reads.Post
+request-firm = equation
+
+pub decide-firm : FirmAnswer 0 decide.ps decide.r decide-reads.Asked decide-reads.Post
+decide-firm = equation
+
+pub past-padding-firm : FirmAnswer 1 past-padding.ps past-padding.r past-padding-reads.Asked past-padding-reads.Post
+past-padding-firm = equation
+
+pub show-firm : FirmAnswer 1 show.ps show.r show-reads.Asked show-reads.Post
+show-firm = equation
+
+pub gate-firm : FirmAnswer 0 gate.ps gate.r gate-reads.Asked gate-reads.Post
+gate-firm = equation
+
+pub open-firm : FirmAnswer 0 opening.ps opening.r opening-reads.Asked opening-reads.Post
+open-firm = equation
+
+pub entries-firm : FirmAnswer 0 entries.ps entries.r entries-reads.Asked entries-reads.Post
+entries-firm = equation
+
+pub entry-firm : FirmAnswer 0 entry.ps entry.r entry-reads.Asked entry-reads.Post
+entry-firm = equation

@@ -1,0 +1,23 @@
+-- `steps::opening::entries` meets its contract: the match asks whether the answer accepts.
+-- Assumes nothing.
+use borrow.Author.Needs.{needs}
+use Rattle.answers.proofs.Accepts.{refused}
+use Rattle.steps.specs.Opening.{entriesOf}
+use Rattle.steps.proofs.opening.entries.Statement.{statement}
+use Rattle.steps.proofs.opening.entries.Tie as tie
+
+returns : tie.Need-returns
+unfolding entriesOf
+returns c = rw (refused (c .before .args .answer) (c .match .keys2))
+
+returns-2 : tie.Need-returns-2
+unfolding entriesOf
+returns-2 c = rw (c .enum-told .given .1)
+
+pub entries-spec : {M : Type 1} → statement M
+entries-spec =
+    tie.close
+    (tie.spec
+    (λ c. search needs)
+    returns
+    returns-2)

@@ -1,0 +1,4 @@
+pub mod Step
+pub mod Past
+pub mod Gate
+pub mod Opening

@@ -1,0 +1,113 @@
+// One frame of a payload: what it asks for, and what it leaves of a connection and of the entry that it looks at.
+ghost use mathlib.Core.Path.{_≡_};
+ghost use Rattle.steps.specs.Step.{requestOf, requestAt, decidedAs, decidedOf, shownAt};
+ghost use Rattle.steps.specs.Past.{pastPadding};
+use crate::Decided;
+use crate::Request;
+use crate::Shown;
+use crate::Stepped;
+use answers::Answer;
+use frames::Kind;
+use frames::Reading;
+use rules::Judged;
+use rules::View;
+use streams::Conn;
+use streams::Entry;
+use streams::Mark;
+use wire::Number;
+
+// What a frame asks for, from what reading it gave.
+fn requested(kind: Kind, at: usize, r: Reading) -> Request
+    ensures { λ a. ⌜ a ≡ requestOf kind at r ⌝ }
+{
+    match r {
+        Reading::Got { frame, ty, next } => {
+            let view = rules::views::view(kind, frame);
+            Request {
+                place: rules::views::place(view),
+                next,
+                ty,
+                answer: Answer::Accepted,
+                view,
+            }
+        },
+        Reading::Refused { answer, ty } => Request {
+            place: 0,
+            next: at,
+            ty,
+            answer,
+            view: View::Nothing,
+        },
+    }
+}
+
+// What the frame at a place asks for.
+pub fn request(s: &[u8], at: usize, kind: Kind) -> Request
+    ensures { λ a. ⌜ a ≡ requestAt (now (s .entry)) at kind ⌝ }
+{
+    requested(kind, at, frames::read(s, at, kind))
+}
+
+// A verdict, as a step of a walk.
+fn decided(j: Judged, next: usize) -> Decided
+    ensures { λ r. ⌜ r ≡ decidedAs j next ⌝ }
+{
+    let answer = j.answer;
+    let conn = j.conn;
+    let entry = j.entry;
+    let mark = conn.mark;
+    let stepped = Stepped {
+        conn,
+        answer,
+        more: mark.is_open(),
+        next,
+    };
+    Decided { stepped, entry }
+}
+
+// What a frame leaves, on an open connection whose table fits.
+pub fn decide(c: Conn, e: Entry, a: Request) -> Decided
+    ensures { λ r. ⌜ r ≡ decidedOf c e a ⌝ }
+{
+    let answer = a.answer;
+    let view = a.view;
+    let Answer::Accepted = answer else {
+        let conn = c.marked(Mark::Code { answer, ty: a.ty });
+        return decided(
+            Judged {
+                answer,
+                conn,
+                entry: e,
+            },
+            a.next,
+        );
+    };
+    decided(rules::verdict::judge(c, e, a.ty, view), a.next)
+}
+
+// The first place from `at` on that holds no PADDING. Each PADDING byte is a frame that changes nothing.
+pub fn past_padding(s: &[u8], at: usize) -> usize
+    ensures { λ r. ⌜ r ≡ pastPadding (now (s .entry)) at ⌝ }
+{
+    let mut i = at;
+    while i < s.len() {
+        if s[i] != 0 {
+            return i;
+        }
+        i += 1;
+    }
+    i
+}
+
+// What a call for the frame at a place shows the caller.
+pub fn show(s: &[u8], at: usize, kind: Kind) -> Shown
+    ensures { λ r. ⌜ r ≡ shownAt (now (s .entry)) at kind ⌝ }
+{
+    match frames::read(s, at, kind) {
+        Reading::Got { frame, ty, next } => Shown::Whole { frame, ty, next },
+        Reading::Refused { answer: _, ty: _ } => match wire::read(s, at) {
+            Number::Is { value, next: _ } => Shown::Typed { ty: value },
+            Number::CutShort => Shown::Nothing,
+        },
+    }
+}
