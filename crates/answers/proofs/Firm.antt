@@ -22,7 +22,7 @@ module _ {n : ℕ} {ps : List (PK n)} {r : RK n} where
   pub equation : {value : (κs : Lfts n) → Dens κs ps → resT r κs .Denot} → FirmAnswer n ps r (λ κs a. Unit) (λ κs a x s. x ≡ value κs a)
   equation = record { asks-nothing = λ κs a. tt; one-outcome = λ κs a x y s t p q. p ∙ sym q }
 
-  -- the contract says what the answer is and what is left behind a reference
+  -- the contract says what the answer is and what is left where a reference points
   pub equations : {L : Lfts n → Type 0} {left : (κs : Lfts n) → AtExit (endedOf n ps r) κs → L κs} {value : (κs : Lfts n) → Dens κs ps → resT r κs .Denot} {after : (κs : Lfts n) → Dens κs ps → L κs}
       → Firm n ps r (λ κs a. Unit) (λ κs a x s. (x ≡ value κs a) × (left κs s ≡ after κs a)) (λ κs. resT r κs .Denot × L κs) (λ κs x s. (x, left κs s))
   equations = record { asks-nothing = λ κs a. tt; one-outcome = λ κs a x y s t p q. both p q }
@@ -38,7 +38,7 @@ module _ {M : Type 1} {𝓤 : URA M} {T : Ended} {ghost : (κs : Lfts (T .signat
       → FirmClauses 𝓤 T (λ κs a. record { ghost = ghost κs a; requires = λ g. emp 𝓤; ensures = λ g x s. fact 𝓤 (x ≡ value κs a) }) (λ κs. Res (T .signature) κs) (λ κs x s. x)
   clauses-equation {value} = record { asks-nothing = λ κs a g. refl; Told = λ κs a x s. x ≡ value κs a; a-fact = λ κs a g x s. refl; one-outcome = λ κs a x y s t p q. p ∙ sym q }
 
-  -- .. and what is left behind a reference
+  -- .. and what is left where a reference points
   pub clauses-equations : {L : Lfts (T .signature .lifetimes) → Type 0} {left : (κs : Lfts (T .signature .lifetimes)) → AtExit T κs → L κs}
       {value : (κs : Lfts (T .signature .lifetimes)) → Args (T .signature) κs → Res (T .signature) κs} {after : (κs : Lfts (T .signature .lifetimes)) → Args (T .signature) κs → L κs}
       → FirmClauses 𝓤 T (λ κs a. record { ghost = ghost κs a; requires = λ g. emp 𝓤; ensures = λ g x s. fact 𝓤 ((x ≡ value κs a) × (left κs s ≡ after κs a)) }) (λ κs. Res (T .signature) κs × L κs) (λ κs x s. (x, left κs s))

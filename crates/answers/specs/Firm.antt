@@ -11,7 +11,7 @@ use denote.Triple.Entry.{Args, Res}
 use borrow.Fn.Kinds.{PK, RK, In, Out, Dens, resT, endedOf}
 
 -- a function of n lifetimes with the parameters ps and the result r; `asked` and `meets` are its `requires` and `ensures` as the toolchain reads them,
--- and `outcome` is what a caller can see of a call: its result x and what it leaves, s, behind the references that were lent
+-- and `outcome` is what a caller can see of a call: its result x and what it leaves, s, where the references that were lent point
 pub record Firm (n : ℕ) (ps : List (PK n)) (r : RK n) (asked : In n ps) (meets : Out n ps r) (O : Lfts n → Type 0)
     (outcome : (κs : Lfts n) → resT r κs .Denot → AtExit (endedOf n ps r) κs → O κs) : Type 0 where
   pub asks-nothing : (κs : Lfts n) (a : Dens κs ps) → asked κs a

@@ -52,7 +52,7 @@ type-size : (ty : FrameType) → length (typeField ty) ≤ 21
 type-size (Is ty) = rw type-number (field-size ty 32)
 type-size Unread = rw type-dash (omega arith)
 
--- where there is room for the longest field, a number is written, and the byte behind it makes it a field
+-- where there is room for the longest field, a number is written, and the byte after it makes it a field
 module _ (line : List ℕ) (at n : ℕ) (room : at + 21 ≤ length line) {r : Wrote} {after : List ℕ} (e : (r, after) ≡ writes (Bytes (decimalOf n)) line at) where
   pub unrefused : {a : Answer} → r ≡ Refused a → ⊥
   unrefused = bytes-unrefused (decimalOf n) line at e (omega (arith, decimal-size n))
@@ -136,7 +136,7 @@ module _ (place : ℕ) (ty : FrameType) (code total : ℕ) where
           pub row-front : take e le ≡ rowOf place ty code total
           row-front = front whole (omega arith) ∙ row-fields
 
--- the last line of a connection that was closed with a code: the text, and the code behind it
+-- the last line of a connection that was closed with a code: the text, and the code after it
 module _ (code : ℕ) {r : Wrote} {la : List ℕ} (ea : (r, la) ≡ writes (Bytes closedText) (replicate 42 0) 0) where
   with-text : Begun (replicate 42 0) closedText 21 7 la
   unfolding closedText

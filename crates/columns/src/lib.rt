@@ -16,10 +16,10 @@ pub enum FrameType {
     Unread,
 }
 
-// The longest row: four numbers of 20 digits, each with the byte behind it.
+// The longest row: four numbers of 20 digits, each with the byte after it.
 const MOST: usize = 84;
 
-// Writes a number and the byte behind it where there is room for the longest, and answers the place after them.
+// Writes a number and the byte after it where there is room for the longest, and answers the place after them.
 fn field(line: &mut [u8], at: usize, n: u64, behind: u8) -> usize
     requires { ⌜ at + 21 ≤ length (now line) ⌝ }
     ensures { λ r. ⌜ (r ≡ at + length (fieldOf n behind)) × (now (line .exit) ≡ sets (now (line .entry)) at (fieldOf n behind)) ⌝ }
@@ -31,7 +31,7 @@ fn field(line: &mut [u8], at: usize, n: u64, behind: u8) -> usize
     next + 1
 }
 
-// Writes a type and the blank behind it, likewise.
+// Writes a type and the blank after it, likewise.
 fn type_field(line: &mut [u8], at: usize, ty: FrameType) -> usize
     requires { ⌜ at + 21 ≤ length (now line) ⌝ }
     ensures { λ r. ⌜ (r ≡ at + length (typeField ty)) × (now (line .exit) ≡ sets (now (line .entry)) at (typeField ty)) ⌝ }

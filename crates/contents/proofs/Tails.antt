@@ -38,7 +38,7 @@ no-ranges Eight a c d body h = refl
 no-ranges Identity a c d body h = refl
 no-ranges Ranges a c d body h = absurd (h refl)
 
--- k bytes behind a place that is inside
+-- k bytes after a place that is inside
 pub behind : (k at n : ℕ) → at ≤ n → leb k (n - at) ≡ leb (at + k) n
 behind k at n h =
     below-or-not n (at + k)

@@ -13,26 +13,26 @@ use Rattle.contents.specs.Taken.{takes, fitting}
 use Rattle.contents.proofs.Ones.{first-in-range}
 
 module _ (f : Content) where
-  pub outside : f .whole ≡ false → takes f ≡ false
+  pub outside : f .inside ≡ false → takes f ≡ false
   unfolding takes
   outside e = rw e
 
-  pub above : f .whole ≡ true → inRange (f .a ∷ f .b ∷ f .c ∷ f .d ∷ f .x ∷ f .y ∷ f .z ∷ f .len ∷ []) ≡ false → takes f ≡ false
+  pub above : f .inside ≡ true → inRange (f .a ∷ f .b ∷ f .c ∷ f .d ∷ f .x ∷ f .y ∷ f .z ∷ f .len ∷ []) ≡ false → takes f ≡ false
   unfolding takes
   above e g = rw (e, g)
 
-  pub faulty : f .whole ≡ true → inRange (f .a ∷ f .b ∷ f .c ∷ f .d ∷ f .x ∷ f .y ∷ f .z ∷ f .len ∷ []) ≡ true → faultOf (f .ty) (f .a) (f .b) (f .len) ≡ true → takes f ≡ false
+  pub faulty : f .inside ≡ true → inRange (f .a ∷ f .b ∷ f .c ∷ f .d ∷ f .x ∷ f .y ∷ f .z ∷ f .len ∷ []) ≡ true → faultOf (f .ty) (f .a) (f .b) (f .len) ≡ true → takes f ≡ false
   unfolding takes
   faulty e g h = rw (e, g, h)
 
-  pub fine : f .whole ≡ true → inRange (f .a ∷ f .b ∷ f .c ∷ f .d ∷ f .x ∷ f .y ∷ f .z ∷ f .len ∷ []) ≡ true → faultOf (f .ty) (f .a) (f .b) (f .len) ≡ false
+  pub fine : f .inside ≡ true → inRange (f .a ∷ f .b ∷ f .c ∷ f .d ∷ f .x ∷ f .y ∷ f .z ∷ f .len ∷ []) ≡ true → faultOf (f .ty) (f .a) (f .b) (f .len) ≡ false
       → takes f ≡ fitting (layoutOf (f .ty) .tail) (f .a) (f .c) (f .d) (f .body)
   unfolding takes
   fine e g h = rw (e, g, h)
 
 -- the parts of `takes`
 pub record Taken (f : Content) : Type 0 where
-  pub whole : f .whole ≡ true
+  pub inside : f .inside ≡ true
   pub range : inRange (f .a ∷ f .b ∷ f .c ∷ f .d ∷ f .x ∷ f .y ∷ f .z ∷ f .len ∷ []) ≡ true
   pub right : faultOf (f .ty) (f .a) (f .b) (f .len) ≡ false
   pub fits : fitting (layoutOf (f .ty) .tail) (f .a) (f .c) (f .d) (f .body) ≡ true
@@ -42,10 +42,10 @@ unfolding takes
 taken f e =
     let r = inRange (f .a ∷ f .b ∷ f .c ∷ f .d ∷ f .x ∷ f .y ∷ f .z ∷ f .len ∷ []) in
     let n = not (faultOf (f .ty) (f .a) (f .b) (f .len)) in
-    let p = and-eq-true-iff (f .whole && r && n) (fitting (layoutOf (f .ty) .tail) (f .a) (f .c) (f .d) (f .body)) .0 e in
-    let q = and-eq-true-iff (f .whole && r) n .0 (p .0) in
-    let w = and-eq-true-iff (f .whole) r .0 (q .0) in
-    record { whole = w .0; range = w .1; right = not-true _ (q .1); fits = p .1 }
+    let p = and-eq-true-iff (f .inside && r && n) (fitting (layoutOf (f .ty) .tail) (f .a) (f .c) (f .d) (f .body)) .0 e in
+    let q = and-eq-true-iff (f .inside && r) n .0 (p .0) in
+    let w = and-eq-true-iff (f .inside) r .0 (q .0) in
+    record { inside = w .0; range = w .1; right = not-true _ (q .1); fits = p .1 }
 
 -- the eight numbers are below 2^62
 pub record Low (f : Content) : Type 0 where

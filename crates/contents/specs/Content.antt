@@ -41,10 +41,10 @@ tokenInside n Identity p = leb (p .token + 16) n
 tokenInside n Ranges p = true
 
 -- whether all places of a frame lie inside a slice of n bytes
-unfoldable pub wholeOf : ℕ → Tail → Parts → Bool
-wholeOf n tail p = leb (p .at + p .len) n && tokenInside n tail p
+unfoldable pub insideOf : ℕ → Tail → Parts → Bool
+insideOf n tail p = leb (p .at + p .len) n && tokenInside n tail p
 
--- `whole` is part of it: what a frame says with a place outside of its slice is what no frame says that was read
+-- `inside` is part of it: what a frame says with a place outside of its slice is what no frame says that was read
 pub record Content : Type 0 where
   pub ty : ℕ
   pub a : ℕ
@@ -57,7 +57,7 @@ pub record Content : Type 0 where
   pub x : ℕ
   pub y : ℕ
   pub z : ℕ
-  pub whole : Bool
+  pub inside : Bool
 
 abbrev pub contentOf : List ℕ → Parts → Content
 contentOf s p =
@@ -74,7 +74,7 @@ contentOf s p =
       x = p .x;
       y = p .y;
       z = p .z;
-      whole = wholeOf (length s) t p;
+      inside = insideOf (length s) t p;
     }
 
 -- the contents of a frame whose places refer to s

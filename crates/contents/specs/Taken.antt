@@ -22,7 +22,7 @@ fitting Ranges largest count first body = leb first largest && fits (largest - f
 
 unfoldable pub takes : Content → Bool
 takes f =
-    f .whole
+    f .inside
     && inRange (f .a ∷ f .b ∷ f .c ∷ f .d ∷ f .x ∷ f .y ∷ f .z ∷ f .len ∷ [])
     && not (faultOf (f .ty) (f .a) (f .b) (f .len))
     && fitting (layoutOf (f .ty) .tail) (f .a) (f .c) (f .d) (f .body)

@@ -6,7 +6,7 @@ ghost use Prim.Native.Nat.{_-_, _*_};
 ghost use lib.Dec.{leb};
 ghost use Rattle.ranges.specs.Listed.{listed, fits};
 ghost use Rattle.row.specs.Row.{inRange};
-ghost use Rattle.contents.specs.Content.{bodyOf, tokenInside, wholeOf, contentOf};
+ghost use Rattle.contents.specs.Content.{bodyOf, tokenInside, insideOf, contentOf};
 ghost use Rattle.contents.specs.Taken.{fitting, takes};
 use fields::Parts;
 use layouts::Tail;
@@ -28,7 +28,7 @@ fn token_inside(tail: Tail, p: Parts, n: usize) -> bool
 
 // Whether all places lie inside a slice of n bytes.
 fn inside(tail: Tail, p: Parts, n: usize) -> bool
-    ensures { λ r. ⌜ r ≡ wholeOf n tail p ⌝ }
+    ensures { λ r. ⌜ r ≡ insideOf n tail p ⌝ }
 {
     if n < p.at {
         return false;

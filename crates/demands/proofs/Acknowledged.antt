@@ -84,13 +84,13 @@ walk-back s n low at (Span high least ∷ runs) a r (suc k) h =
     (ap (λ (l : List Run). Span high least ∷ l) (walk-back s n least (r .2 .0) runs (a .2) (r .2 .2) k (omega arith)))
 walk-back s n low at (Nothing ∷ runs) a r k h = absurd a
 
--- the fields of an ACK: four numbers, the first range not below 0, and the further ranges behind them
+-- the fields of an ACK: four numbers, the first range not below 0, and the further ranges after them
 fields-back : (s : List ℕ) (at high delay count first : ℕ) (rest : List ℕ) (n : ℕ) (r : ReadAs s at (high ∷ delay ∷ count ∷ first ∷ rest) n) → first ≤ high
     → rangesAt s count (r .2 .2 .2 .0) (high - first) ≡ Ranges'.To n → fieldsAt s at 2 ≡ Got (Ack high delay count first (r .2 .2 .2 .0)) 2 n
 unfolding fieldsAt endedAt partsAt layoutOf layouts numbersAt optionalAt rangedAt faultOf frameOf
 fields-back s at high delay count first rest n r h e = rw (r .1, r .2 .1, r .2 .2 .1, r .2 .2 .2 .1, le-ltb high first h, e)
 
--- a row that begins with 2 begins with the type of ACK in its shortest form, and the others are read behind it
+-- a row that begins with 2 begins with the type of ACK in its shortest form, and the others are read after it
 type-back : (s : List ℕ) (at : ℕ) (vs : List ℕ) → inRange (2 ∷ vs) ≡ true → Stands s at (bytesAll (2 ∷ vs)) → (numberAt s at ≡ Is 2 (at + 1)) × ReadAs s (at + 1) vs (at + sizeAll (2 ∷ vs))
 unfolding sizeOf formOf sizeAll
 type-back s at vs h st = let p = row.peel s at 2 vs h st in (p .0, subst (ReadAs s (at + 1) vs) (add-assoc at 1 (sizeAll vs)) (row.reads s vs (at + 1) (p .1) (p .2)))
@@ -125,7 +125,7 @@ frame-back s at delay high low runs n o a h st e =
       walked = first-back s n high low p runs o a b;
     }
 
--- a record that can be and is not empty has its largest number recorded, so it has a run
+-- a record that fits and is not empty has its largest number recorded, so it has a run
 some-run : (R : Record) → soundOf R ≡ true → (R .top ≡ 0 → ⊥) → RunOf (recorded R) (R .top) Nothing → ⊥
 some-run R s h f =
     true≢false (sym (rec-in R (R .top - 1) (omega arith) (omega arith) ∙ eq-eqb _ 1 (sound-facts R s .last (omega arith))) ∙ f (R .top - 1) (omega arith))

@@ -1,4 +1,4 @@
--- 120 never comes of the host's own calls: the records that a packet leaves can be again, and where the table and the records fit no call answers 120.
+-- 120 never comes of the host's own calls: the records that a packet leaves fit again, and where the table and the records fit no call answers 120.
 -- Every other answer is named where it is given, and none of these is 120.
 -- Assumes nothing.
 use Prim.Native.Nat.{ℕ, zero, suc, _-_, _^_}

@@ -14,6 +14,7 @@ use Rattle.numbers.specs.declared.Recovered.the-variants as Recovered'
 use Rattle.records.specs.declared.Record.{Record}
 use Rattle.records.specs.Marks.{noneOf}
 use Rattle.records.specs.Ring.{takenOf}
+use Rattle.halves.specs.Stream.{entries}
 use Rattle.streams.specs.Entry.{fresh}
 use Rattle.streams.specs.Small.{small}
 use Rattle.demands.specs.Hosts.{Host, answered, acted, hosted}
@@ -21,7 +22,7 @@ use Rattle.demands.specs.Hosts.Act.{TakeFrame}
 
 -- the small connection, opened on a table of 192 entries
 abbrev pub bench : Host
-bench = hosted small (replicate 192 (fresh 0))
+bench = hosted small (replicate entries (fresh 0))
 
 -- payloads of one 1-RTT frame, each taken in turn: the number of each answer, and the total after it
 unfoldable pub taken : Host → List (List ℕ) → List (ℕ × ℕ)

@@ -6,6 +6,7 @@ use Prim.Native.Nat.{ℕ}
 use Rattle.answers.specs.Answers.{numberOf}
 use Rattle.frames.specs.declared.Kind.the-variants.{OneRtt}
 use Rattle.streams.specs.declared.Entry.{Entry}
+use Rattle.halves.specs.Stream.{entries}
 use Rattle.streams.specs.Entry.{fresh}
 use Rattle.streams.specs.Conn.{withCredit}
 use Rattle.streams.specs.Small.{small}
@@ -23,7 +24,7 @@ abbrev pub usedUp : List Act
 usedUp = alone (final 0 0 16) ∷ alone (stream 4 0 16) ∷ []
 
 abbrev pub room : List Entry
-room = replicate 192 (fresh 0)
+room = replicate entries (fresh 0)
 
 -- the hypothesis can be met, also when other streams have used up their credit: the small connection with credit for all its 8 streams of 16
 abbrev pub Met : Type 0

@@ -20,7 +20,7 @@ use Rattle.packets.specs.Begin.{inSpaceOf}
 abbrev pub only5 : Record
 only5 = takenOf noneOf 5 .«record»
 
--- the answers to some 1-RTT packets before their frames, each a first byte and the bytes behind it, where 5 was recorded
+-- the answers to some 1-RTT packets before their frames, each a first byte and the bytes after it, where 5 was recorded
 abbrev pub begun : List (ℕ × List ℕ) → List ℕ
 begun l = map (λ p. numberOf (inSpaceOf (openedConn small Open) only5 OneRtt (p .0) (p .1) .answer)) l
 

@@ -9,7 +9,7 @@ use Rattle.fields.specs.declared.Parts.{Parts}
 use Rattle.fields.specs.declared.Fields.{Fields}
 use Rattle.fields.specs.declared.Fields.the-variants.{Are, Wrong}
 
--- the numbers behind a frame's bytes, and all its parts, unless they have a fault
+-- the numbers after a frame's bytes, and all its parts, unless they have a fault
 unfoldable pub endedAt : List ℕ → ℕ → ℕ → Parts → Fields
 endedAt s at after p =
     withNumbers (numbersAt s at after) Wrong (λ x y z rest next.

@@ -38,7 +38,7 @@ pub enum Fields {
     Wrong,
 }
 
-// The numbers behind a frame's bytes; then the frame is judged.
+// The numbers after a frame's bytes; then the frame is judged.
 fn end(s: &[u8], at: usize, after: u8, p: Parts) -> Fields
     ensures { λ r. ⌜ r ≡ endedAt (now (s .entry)) at after p ⌝ }
 {

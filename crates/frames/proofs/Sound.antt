@@ -89,7 +89,7 @@ module _ (s : List ℕ) (at : ℕ) where
   pub type-got : {ty next : ℕ} → headAt s at ≡ Head'.Type ty next → (numberAt s at ≡ Is ty next) × (shortest at ty next ≡ true) × (known ty ≡ true)
   type-got e = subst IfType e all-types
 
--- a frame that was read: its type, and its fields behind it
+-- a frame that was read: its type, and its fields after it
 module _ (s : List ℕ) (at : ℕ) (f : Frame) (ty n : ℕ) where
   abbrev Parted : Type 0
   Parted = (next : ℕ) × (numberAt s at ≡ Is ty next) × (shortest at ty next ≡ true) × (known ty ≡ true) × (fieldsAt s next ty ≡ Got f ty n)

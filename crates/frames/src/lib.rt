@@ -158,7 +158,7 @@ fn admit(kind: Kind, head: Head) -> Head
     }
 }
 
-// The frame behind a type.
+// The frame after a type.
 fn read_after(s: &[u8], head: Head) -> Reading
     ensures { λ r. ⌜ r ≡ withHead head (λ ty next. fieldsAt (now (s .entry)) next ty) ⌝ }
 {

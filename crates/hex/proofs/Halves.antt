@@ -98,7 +98,7 @@ module _ (l : List ℕ) (i : ℕ) (h : i < length l) where
   first : every isHalf (drop i l) ≡ true → (isHalf (getD l i 0) ≡ true) × (every isHalf (drop (i + 1) l) ≡ true)
   first e = and-eq-true-iff (isHalf (getD l i 0)) (every isHalf (drop (i + 1) l)) .0 (sym (every-step l i h isHalf) ∙ e)
 
--- two characters that are left, and what is left behind them
+-- two characters that are left, and what is left after them
 module _ (l : List ℕ) (i : ℕ) (h : i + 1 < length l) where
   two : drop i l ≡ getD l i 0 ∷ getD l (i + 1) 0 ∷ drop (i + 2) l
   two = rw (step l i (omega arith), step l (i + 1) h, add-assoc)

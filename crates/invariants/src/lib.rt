@@ -1,5 +1,5 @@
 // What every version of QUIC has in common (RFC 8999, 5.1): the version and both connection IDs of a long header, and bytes
-// behind their own number.
+// after their own number.
 ghost use mathlib.Core.Path.{_≡_};
 ghost use Prim.Native.Nat.{_≤_, _<_};
 ghost use lib.ListN.{length};

@@ -1,4 +1,4 @@
--- What was read behind a type is sound: each number and each tail ends within the payload and not before its place.
+-- What was read after a type is sound: each number and each tail ends within the payload and not before its place.
 -- Assumes nothing.
 use mathlib.Core.Path.{_≡_, subst}
 use mathlib.Core.Bool.{Bool, true, false}

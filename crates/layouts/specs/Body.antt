@@ -1,4 +1,4 @@
--- What stands behind a frame's type: numbers, and what a tail holds. A field that cannot be read ends the frame.
+-- What stands after a frame's type: numbers, and what a tail holds. A field that cannot be read ends the frame.
 use Prim.Native.Nat.{ℕ, _+_, _-_}
 use mathlib.Core.Bool.{Bool}
 use mathlib.Core.List.{List}

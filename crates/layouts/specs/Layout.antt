@@ -1,4 +1,4 @@
--- The figures of RFC 9000, section 19, a row for each type from 0x00 on: how many numbers follow the type, what stands behind them, and how many numbers behind that.
+-- The figures of RFC 9000, section 19, a row for each type from 0x00 on: how many numbers follow the type, what stands after them, and how many numbers after that.
 use Prim.Native.Nat.{ℕ}
 use mathlib.Core.Bool.{Bool}
 use mathlib.Core.List.{List, [], _∷_}

@@ -1,4 +1,4 @@
-// The figures of RFC 9000, section 19: what stands behind a frame's type, by a table of layouts.
+// The figures of RFC 9000, section 19: what stands after a frame's type, by a table of layouts.
 pub mod pieces;
 pub mod table;
 pub mod types;
@@ -18,7 +18,7 @@ pub enum Tail {
     Ranges,
 }
 
-// The layout of a type: how many numbers follow it, what stands behind them, and how many numbers behind that.
+// The layout of a type: how many numbers follow it, what stands after them, and how many numbers after that.
 pub struct Layout {
     pub numbers: u8,
     pub tail: Tail,

@@ -1,4 +1,4 @@
-// The parts of a frame behind its type: numbers, some of them not there, and what a tail holds.
+// The parts of a frame after its type: numbers, some of them not there, and what a tail holds.
 ghost use mathlib.Core.Path.{_≡_};
 ghost use Prim.Native.Nat.{_<_};
 ghost use lib.ListN.{length};
@@ -67,7 +67,7 @@ fn read_sized(s: &[u8], at: usize, n: u64) -> Body
     }
 }
 
-// Bytes behind their own number.
+// Bytes after their own number.
 fn read_counted(s: &[u8], at: usize) -> Body
     ensures { λ r. ⌜ r ≡ countedAt (now (s .entry)) at ⌝ }
 {
@@ -98,7 +98,7 @@ fn wide(x: u8) -> usize
     x as usize
 }
 
-// A connection ID behind its length, a plain byte, and a reset token of 16 bytes behind that.
+// A connection ID after its length, a plain byte, and a reset token of 16 bytes after that.
 fn read_identity(s: &[u8], at: usize) -> Body
     ensures { λ r. ⌜ r ≡ identityAt (now (s .entry)) at ⌝ }
 {

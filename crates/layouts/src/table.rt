@@ -6,7 +6,7 @@ use crate::Layout;
 use crate::Tail;
 use crate::types::HANDSHAKE_DONE;
 
-// The digits of a row: how many numbers follow the type, the tail behind them (0 nothing, 1 counted bytes, 2 all bytes
+// The digits of a row: how many numbers follow the type, the tail after them (0 nothing, 1 counted bytes, 2 all bytes
 // that are left, 3 eight bytes, 4 a connection ID and its token, 5 ACK ranges), and how many numbers follow that.
 const ROWS: [u16; 31] = [
     0x000, // 0x00 PADDING

@@ -1,4 +1,4 @@
--- A text up to the first of a byte and what stands behind it, and the words of a line one after the other.
+-- A text up to the first of a byte and what stands after it, and the words of a line one after the other.
 -- Assumes nothing.
 use mathlib.Core.Path.{_≡_, refl, sym, _∙_}
 use mathlib.Core.List.{List}

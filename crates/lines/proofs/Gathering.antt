@@ -1,4 +1,4 @@
--- A line with a piece more is what writing the piece behind it answers; and what is gathered, by whether a newline is found.
+-- A line with a piece more is what writing the piece after it answers; and what is gathered, by whether a newline is found.
 -- Assumes nothing.
 use mathlib.Core.Path.{_≡_, ap}
 use mathlib.Core.Bool.{true, false}

@@ -45,7 +45,7 @@ unfolding blanks
 blanks-one [] t f = refl
 blanks-one (x ∷ w) t f = let p = parts x w f in rw (p .0) (blanks-one w t (p .1))
 
--- behind a character that is no blank
+-- after a character that is no blank
 gap-none : (last : ℕ) (w : List ℕ) → eqb last 32 ≡ false → Full w → gapBehind last w ≡ false
 unfolding gapBehind
 gap-none last [] l f = l
@@ -56,7 +56,7 @@ unfolding gapBehind
 gap-on last [] t l f = rw l
 gap-on last (x ∷ w) t l f = let p = parts x w f in rw (p .0) (gap-on x w t (p .0) (p .1))
 
--- a word has no gap, whatever it stands behind, and what stands behind it is as behind a blank
+-- a word has no gap, whatever it stands after, and what stands after it is as after a blank
 word-none : (last : ℕ) (w : List ℕ) → IsWord w → gapBehind last w ≡ false
 unfolding gapBehind
 word-none last [] i = absurd (omega (arith, i .some))

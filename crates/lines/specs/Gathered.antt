@@ -14,12 +14,12 @@ use Rattle.lines.specs.declared.gather.Line.{Line}
 use Rattle.lines.specs.declared.gather.Line.the-variants.{Kept, TooLong}
 use Rattle.lines.specs.declared.gather.Gathered.{Gathered}
 
--- the line by what writing a piece behind it answered: one that the row does not hold is too long
+-- the line by what writing a piece after it answered: one that the row does not hold is too long
 abbrev pub lineAfter : Wrote → Line
 lineAfter (To next) = Kept next
 lineAfter (Refused answer) = TooLong
 
--- the line with a piece more, and the row then: the piece stands behind what is kept; a line that is too long stays so
+-- the line with a piece more, and the row then: the piece stands after what is kept; a line that is too long stays so
 unfoldable pub grownOf : Line → List ℕ → List ℕ → Line × List ℕ
 grownOf (Kept len) piece row = let w = writes (Bytes piece) row len in (lineAfter (w .0), w .1)
 grownOf TooLong piece row = (TooLong, row)

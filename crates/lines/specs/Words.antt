@@ -23,18 +23,18 @@ blanks (x ∷ s) =
     eqb x 32 ⇒ suc (blanks s)
     ∣ blanks s
 
--- whether a word is empty in a text that stands behind a byte: a blank is at its end, or behind another
+-- whether a word is empty in a text that stands after a byte: a blank is at its end, or after another
 unfoldable pub gapBehind : ℕ → List ℕ → Bool
 gapBehind last [] = eqb last 32
 gapBehind last (x ∷ s) = (eqb x 32 && eqb last 32) || gapBehind x s
 
--- how many words a line has, 0 if one is empty: a line begins as if behind a blank
+-- how many words a line has, 0 if one is empty: a line begins as if after a blank
 unfoldable pub countOf : List ℕ → ℕ
 countOf s =
     gapBehind 32 s ⇒ 0
     ∣ suc (blanks s)
 
--- what stands behind the first blank, nothing if there is none
+-- what stands after the first blank, nothing if there is none
 unfoldable pub behindBlank : List ℕ → List ℕ
 behindBlank s = drop (suc (before 32 s)) s
 

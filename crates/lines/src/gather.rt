@@ -17,7 +17,7 @@ pub struct Gathered {
     pub used: usize,
 }
 
-// Puts a piece behind what is kept.
+// Puts a piece after what is kept.
 fn grown(row: &mut [u8], line: Line, piece: &[u8]) -> Line
     ensures { λ r. ⌜ (r, now (row .exit)) ≡ grownOf line (now (piece .entry)) (now (row .entry)) ⌝ }
 {

@@ -39,7 +39,7 @@ pub fn count(s: &[u8]) -> usize
     blanks + 1
 }
 
-// The place behind the first blank, or the end.
+// The place after the first blank, or the end.
 fn past(s: &[u8]) -> usize
     ensures { λ r. ⌜ (r ≤ length (now (s .entry))) × (drop r (now (s .entry)) ≡ behindBlank (now (s .entry))) ⌝ }
 {

@@ -5,7 +5,7 @@ mod walk;
 fn main() {
     let mut input = io::large_buffer();
     let n = io::read_full(libc::STDIN_FILENO, &mut input);
-    if rows::taken::too_long(n) {
+    if report::taken::too_long(n) {
         output::text(b"too long\n");
         return;
     }

@@ -1,5 +1,5 @@
 // What the listing writes: texts, what is gathered in a buffer, and the last line.
-use rows::taken;
+use report::taken;
 use streams::Mark;
 use wire::Wrote;
 

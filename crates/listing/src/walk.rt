@@ -37,5 +37,5 @@ pub fn list(s: &[u8]) {
     };
     let mut buf = io::large_buffer();
     let mark = walk(first, s, &mut buf);
-    output::standing(rows::taken::last(s.len(), mark));
+    output::standing(report::taken::last(s.len(), mark));
 }

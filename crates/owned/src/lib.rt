@@ -1,6 +1,7 @@
 // A stream table owned by value, for a program that has no memory to lend: each call lends it to crate receive and hands it back.
 ghost use mathlib.Core.Path.{_≡_};
 ghost use lib.ListN.{replicate};
+ghost use Rattle.halves.specs.Stream.{entries};
 ghost use Rattle.streams.specs.Entry.{fresh};
 ghost use Rattle.owned.specs.Owned.{ownedOpenedOf, ownedFrameOf, ownedPacketOf, ownedCallOf};
 use calls::Call;
@@ -16,37 +17,37 @@ use streams::Opened;
 
 pub struct OwnedOpened {
     pub opened: Opened,
-    pub table: [Entry; 192],
+    pub table: [Entry; Conn::ENTRIES],
 }
 
 pub struct OwnedFrame {
     pub took: TookFrame,
-    pub table: [Entry; 192],
+    pub table: [Entry; Conn::ENTRIES],
 }
 
 pub struct OwnedPacket {
     pub took: Took,
-    pub table: [Entry; 192],
+    pub table: [Entry; Conn::ENTRIES],
 }
 
 pub struct OwnedCall {
     pub called: Called,
-    pub table: [Entry; 192],
+    pub table: [Entry; Conn::ENTRIES],
 }
 
 // Room for a table: opening does not look at what stands in it.
-pub fn room() -> [Entry; 192]
-    ensures { λ r. ⌜ r ≡ replicate 192 (fresh 0) ⌝ }
+pub fn room() -> [Entry; Conn::ENTRIES]
+    ensures { λ r. ⌜ r ≡ replicate entries (fresh 0) ⌝ }
 {
     let e = Entry {
         credit: 0,
         end: 0,
         size: Entry::UNKNOWN,
     };
-    [e; 192]
+    [e; Conn::ENTRIES]
 }
 
-pub fn open(table: [Entry; 192], limits: Limits) -> OwnedOpened
+pub fn open(table: [Entry; Conn::ENTRIES], limits: Limits) -> OwnedOpened
     ensures { λ r. ⌜ r ≡ ownedOpenedOf table limits ⌝ }
 {
     let mut t = table;
@@ -54,7 +55,7 @@ pub fn open(table: [Entry; 192], limits: Limits) -> OwnedOpened
     OwnedOpened { opened, table: t }
 }
 
-pub fn take_frame(c: Conn, table: [Entry; 192], s: &[u8], at: usize, kind: Kind) -> OwnedFrame
+pub fn take_frame(c: Conn, table: [Entry; Conn::ENTRIES], s: &[u8], at: usize, kind: Kind) -> OwnedFrame
     ensures { λ r. ⌜ r ≡ ownedFrameOf c table (now (s .entry)) at kind ⌝ }
 {
     let mut t = table;
@@ -65,7 +66,7 @@ pub fn take_frame(c: Conn, table: [Entry; 192], s: &[u8], at: usize, kind: Kind)
 pub fn take_packet(
     c: Conn,
     records: Records,
-    table: [Entry; 192],
+    table: [Entry; Conn::ENTRIES],
     first: u8,
     s: &[u8],
 ) -> OwnedPacket
@@ -76,7 +77,7 @@ pub fn take_packet(
     OwnedPacket { took, table: t }
 }
 
-pub fn call(c: Conn, table: [Entry; 192], call: Call) -> OwnedCall
+pub fn call(c: Conn, table: [Entry; Conn::ENTRIES], call: Call) -> OwnedCall
     ensures { λ r. ⌜ r ≡ ownedCallOf c table call ⌝ }
 {
     let mut t = table;

@@ -61,9 +61,9 @@ abbrev pub withKind : {X : Type 0} → Header → X → (Kind → X) → X
 withKind (Header'.Carries kind) x k = k kind
 withKind Header'.NoPacket x k = x
 
--- whole says whether the connection and its table fit
+-- fits says whether the connection and its table fit
 unfoldable pub beginOf : Conn → Records → Bool → ℕ → List ℕ → Begun
-beginOf c rs whole first s =
-    not (whole && recordsFit rs) ⇒ refusedOf c DoesNotFit (length s)
+beginOf c rs fits first s =
+    not (fits && recordsFit rs) ⇒ refusedOf c DoesNotFit (length s)
     ∣ not (isOpen (c .mark)) ⇒ refusedOf c Closed (length s)
     ∣ withKind (headerOf first) (refusedOf c NoPacket (length s)) (λ kind. inSpaceOf c (recordOf rs (spaceOf kind)) kind first s)

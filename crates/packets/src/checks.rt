@@ -89,7 +89,7 @@ fn in_space(c: Conn, words: &[u64; 128], top: u64, kind: Kind, first: u8, s: &[u
     }
 }
 
-// Whether all three records can be. They are lent in their parts, since all three by value are a copy of 3 KB.
+// Whether all three records fit. They are lent in their parts, since all three by value are a copy of 3 KB.
 fn fit<'a>(
     initial: &'a [u64; 128],
     initial_top: u64,
@@ -134,11 +134,11 @@ fn by_kind<'a>(
     }
 }
 
-// A packet up to its frames; `whole` says whether the table fits.
-pub fn begin(c: Conn, records: Records, whole: bool, first: u8, s: &[u8]) -> Begun
-    ensures { λ r. ⌜ r ≡ beginOf c records whole first (now (s .entry)) ⌝ }
+// A packet up to its frames; `fits` says whether the table fits.
+pub fn begin(c: Conn, records: Records, fits: bool, first: u8, s: &[u8]) -> Begun
+    ensures { λ r. ⌜ r ≡ beginOf c records fits first (now (s .entry)) ⌝ }
 {
-    if !whole {
+    if !fits {
         return refused(c, Answer::DoesNotFit, s.len());
     }
     if !fit(

@@ -30,7 +30,7 @@ pub struct Begun {
     pub number: u64,
 }
 
-// Where a walk over frames stopped, with which answer: at the frame that is refused or closes the connection, or behind the last one.
+// Where a walk over frames stopped, with which answer: at the frame that is refused or closes the connection, or after the last one.
 pub struct Stopped {
     pub conn: Conn,
     pub place: usize,

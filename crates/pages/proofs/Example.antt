@@ -7,7 +7,7 @@ use mathlib.Core.List.{List, [], _∷_, _++_}
 use lib.ListN.{length, take, replicate}
 use Rattle.text.specs.Decimal.{digitsOf, decimalOf}
 use Rattle.columns.specs.Row.{fieldOf, typeText, rowOf, closedText}
-use Rattle.rows.specs.Listing.{typeShown, takenRowOf, nextIn, afterOf, lastOf, endingOf}
+use Rattle.report.specs.Listing.{typeShown, takenRowOf, nextIn, afterOf, lastOf, endingOf}
 use Rattle.pages.specs.Pages.{smallOf, withRow, oneMoreOf, pageFrom, pageOf}
 use Rattle.pages.specs.declared.Page.{Page}
 use Rattle.wire.specs.Writing.{writes}

@@ -10,7 +10,7 @@ use lib.ListN.{length}
 use Rattle.wire.specs.Writing.{Bytes, writes}
 use Rattle.wire.specs.declared.Wrote.{Wrote}
 use Rattle.owned.specs.declared.OwnedFrame.{OwnedFrame}
-use Rattle.rows.specs.Listing.{takenRowOf}
+use Rattle.report.specs.Listing.{takenRowOf}
 use Rattle.pages.specs.Pages.{takenFrom, withRow, oneMoreOf, pageFrom}
 use Rattle.pages.specs.declared.Page.{Page}
 

@@ -9,17 +9,18 @@ use Rattle.wire.specs.Writing.{Bytes, writes}
 use Rattle.wire.specs.declared.Wrote.{Wrote}
 use Rattle.wire.specs.declared.Wrote.the-variants.{To, Refused}
 use Rattle.frames.specs.declared.Kind.the-variants.{OneRtt}
+use Rattle.halves.specs.Stream.{entries}
 use Rattle.streams.specs.Entry.{fresh}
 use Rattle.streams.specs.Small.{small}
 use Rattle.owned.specs.Owned.{ownedOpenedOf, ownedFrameOf}
 use Rattle.owned.specs.declared.OwnedOpened.{OwnedOpened}
 use Rattle.owned.specs.declared.OwnedFrame.{OwnedFrame}
-use Rattle.rows.specs.Listing.{takenRowOf, afterOf}
+use Rattle.report.specs.Listing.{takenRowOf, afterOf}
 use Rattle.pages.specs.declared.Page.{Page}
 
 -- the small connection, opened on a table of 192 entries
 unfoldable pub smallOf : OwnedOpened
-smallOf = ownedOpenedOf (replicate 192 (fresh 0)) small
+smallOf = ownedOpenedOf (replicate entries (fresh 0)) small
 
 -- the frame that is next, taken
 abbrev pub takenFrom : Page → List ℕ → OwnedFrame

@@ -3,7 +3,7 @@ ghost use mathlib.Core.Path.{_≡_};
 ghost use Rattle.pages.specs.Pages.{smallOf, oneMoreOf, pageOf};
 use frames::Kind;
 use owned::OwnedOpened;
-use rows::taken;
+use report::taken;
 use streams::Conn;
 use streams::Entry;
 use streams::Limits;
@@ -13,7 +13,7 @@ use wire::Wrote;
 // whether the next row waits for room.
 pub struct Page {
     pub conn: Conn,
-    pub table: [Entry; 192],
+    pub table: [Entry; Conn::ENTRIES],
     pub at: usize,
     pub used: usize,
     pub full: bool,

@@ -1,4 +1,4 @@
--- PADDING bytes are passed at once: each is a frame that changes nothing, so that the walk behind them is the walk from where they begin.
+-- PADDING bytes are passed at once: each is a frame that changes nothing, so that the walk after them is the walk from where they begin.
 -- Assumes nothing.
 use mathlib.Core.Path.{_≡_, refl, sym, _∙_}
 use mathlib.Core.Bool.{Bool, true, false, _&&_, and-eq-true-iff}

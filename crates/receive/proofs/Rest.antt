@@ -31,7 +31,7 @@ unfolding isFresh
 no-end e init f = eqb-true (e .end) 0 (and-eq-true-iff (eqb (e .end) 0) _ .0 (and-eq-true-iff (eqb (e .credit) init) _ .0 f .1) .0)
 
 module _ (credit opened init : ℕ) where
-  -- an unopened entry behind a sum
+  -- an unopened entry after a sum
   unopened : (m : ℕ) (e : Entry) (sum : ℕ) → opened ≤ m → summedOf credit opened init m e (To sum) ≡ restOf credit 0 init (To sum) (isFresh e init)
   unfolding summedOf restOf
   unopened m e sum h = go (isFresh e init) refl
@@ -44,7 +44,7 @@ module _ (credit opened init : ℕ) where
           (λ p. rw (fresh-fits opened init m e h f, lt-leb init mostCredit p, lt-ltb mostCredit init p) refl)
           (λ p. rw (fresh-fits opened init m e h f, le-leb init mostCredit p, le-ltb mostCredit init p, z) refl)
 
-  -- one more behind the rest so far
+  -- one more after the rest so far
   further : (m : ℕ) (e : Entry) (s : Summed) (u : Bool) → opened ≤ m → summedOf credit opened init m e (restOf credit 0 init s u) ≡ restOf credit 0 init s (u && isFresh e init)
   unfolding summedOf restOf
   further m e Unfit u h = refl

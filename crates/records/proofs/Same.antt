@@ -1,4 +1,4 @@
--- A record is known by its numbers: two that can be and that hold the same numbers are one. So `Marked` leaves one record.
+-- A record is known by its numbers: two that fit and that hold the same numbers are one. So `Marked` leaves one record.
 -- Assumes nothing.
 use Prim.Native.Nat.{ℕ, zero, suc, _+_, _-_, _*_, _/_, _%_, _^_, _≤_, _<_}
 use mathlib.Core.Path.{_≡_, sym, _∙_, ap, subst}
@@ -71,7 +71,7 @@ same-record R S v w r s hold =
     (subst (λ (x : ℕ). bit (getD (R .words) x 0) ((k * 64 + i) % 64) ≡ bit (getD (S .words) x 0) ((k * 64 + i) % 64)) e (same-bit R S hold r s top (k * 64 + i) (omega (arith, v .long)))))) in
     λ j. record { words = words j; top = top j }
 
--- so what `mark` promises of a record that can be leaves one record
+-- so what `mark` promises of a record that fits leaves one record
 pub marked-one : (R S T : Record) (n : ℕ) → Sound R → Words S → Words T → Marked R n S → Marked R n T → S ≡ T
 marked-one R S T n r v w a b =
     let e : S .top ≡ T .top = a .top ∙ sym (b .top) in

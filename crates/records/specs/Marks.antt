@@ -25,11 +25,11 @@ testOf R n =
     ∣ recorded R n ⇒ InRecord
     ∣ Accepted
 
--- a record that can be: no number below 0 is marked (theirs are the slots from the top up to 8,192), the largest is marked, and it is not above 2^62-1
+-- a record that fits: no number below 0 is marked (theirs are the slots from the top up to 8,192), the largest is marked, and it is not above 2^62-1
 unfoldable pub soundOf : Record → Bool
 soundOf R = unmarked (R .words) (R .top) (8192 - R .top) && ((eqb (R .top) 0 || recorded R (R .top - 1)) && leb (R .top) (2 ^ 62))
 
--- a record that cannot be: 120
+-- a record that does not fit: 120
 unfoldable pub checkOf : Record → Answer
 checkOf R =
     soundOf R ⇒ Accepted

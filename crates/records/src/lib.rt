@@ -53,7 +53,7 @@ fn put(w: u64, b: u64) -> u64
     w | (1u64 << b)
 }
 
-// 120 for a record that cannot be.
+// 120 for a record that does not fit.
 pub fn check_of(words: &[u64; 128], top: u64) -> Answer
     ensures { λ r. ⌜ r ≡ checkOf (joined (now (words .entry)) top) ⌝ }
 {
@@ -179,7 +179,7 @@ impl Record {
         }
     }
 
-    // 120 for a record that cannot be.
+    // 120 for a record that does not fit.
     pub fn check(self) -> Answer
         ensures { λ r. ⌜ r ≡ checkOf self ⌝ }
     {

@@ -2,7 +2,7 @@
 mod alone;
 mod commands;
 mod line;
-mod rows;
+mod replies;
 mod say;
 mod session;
 mod state;
@@ -29,7 +29,7 @@ fn feed(session: Session, row: &mut [u8; 4096], line: Line, s: &[u8]) -> Fed {
         at += got.used;
         kept = got.line;
         if got.ended {
-            now = rows::ended(now, row, kept);
+            now = replies::ended(now, row, kept);
             kept = Line::Kept { len: 0 };
         }
     }
@@ -57,7 +57,7 @@ fn some(session: Session, row: &mut [u8; 4096], line: Line) -> Fed {
 
 // Runs the last line, which may lack its newline.
 fn last(session: Session, row: &[u8; 4096], line: Line) {
-    rows::ended(session, row, line);
+    replies::ended(session, row, line);
 }
 
 // The turns are more than there can be reads: the loop ends with the input.

@@ -9,7 +9,7 @@ pub struct Session {
     pub opened: bool,
     pub conn: Conn,
     pub records: Records,
-    pub table: [Entry; 192],
+    pub table: [Entry; Conn::ENTRIES],
 }
 
 // What a call leaves: the session, and how long its answer in the output is.
@@ -39,7 +39,7 @@ pub fn empty() -> Session {
     }
 }
 
-pub fn of(conn: Conn, records: Records, table: [Entry; 192]) -> Session {
+pub fn of(conn: Conn, records: Records, table: [Entry; Conn::ENTRIES]) -> Session {
     Session {
         opened: true,
         conn,

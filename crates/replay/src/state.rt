@@ -47,7 +47,7 @@ pub fn end(
     at: usize,
     c: Conn,
     records: Records,
-    table: [Entry; 192],
+    table: [Entry; Conn::ENTRIES],
 ) -> Ran {
     let o = accounts(out, at, c);
     let m = c.mark;

@@ -50,7 +50,7 @@ pub fn open(
 }
 
 // The answer of a call that changes the connection alone.
-fn called(d: Called, records: Records, table: [Entry; 192], out: &mut [u8; 16384]) -> Ran {
+fn called(d: Called, records: Records, table: [Entry; Conn::ENTRIES], out: &mut [u8; 16384]) -> Ran {
     let answer = d.answer;
     let o = say::number(out, 0, answer.number());
     let conn = d.conn;
@@ -58,7 +58,7 @@ fn called(d: Called, records: Records, table: [Entry; 192], out: &mut [u8; 16384
 }
 
 // The same of a call that hands out a number: there is none on refusal.
-fn numbered(d: Called, records: Records, table: [Entry; 192], out: &mut [u8; 16384]) -> Ran {
+fn numbered(d: Called, records: Records, table: [Entry; Conn::ENTRIES], out: &mut [u8; 16384]) -> Ran {
     let answer = d.answer;
     let a = answer.number();
     let o = say::number(out, 0, a);
@@ -76,7 +76,7 @@ fn numbered(d: Called, records: Records, table: [Entry; 192], out: &mut [u8; 163
 fn packet(
     c: Conn,
     records: Records,
-    table: [Entry; 192],
+    table: [Entry; Conn::ENTRIES],
     first: u8,
     s: &[u8],
     count: usize,
@@ -113,7 +113,7 @@ fn shown(out: &mut [u8; 16384], at: usize, shown: Shown) -> usize {
 fn frame(
     c: Conn,
     records: Records,
-    table: [Entry; 192],
+    table: [Entry; Conn::ENTRIES],
     kind: Kind,
     s: &[u8],
     count: usize,
@@ -134,7 +134,7 @@ fn frame(
 }
 
 // A local call: one that opens a stream answers its ID as well.
-fn make(c: Conn, records: Records, table: [Entry; 192], call: Call, out: &mut [u8; 16384]) -> Ran {
+fn make(c: Conn, records: Records, table: [Entry; Conn::ENTRIES], call: Call, out: &mut [u8; 16384]) -> Ran {
     let h = owned::call(c, table, call);
     let d = h.called;
     let rows = h.table;
@@ -181,7 +181,7 @@ fn with(records: Records, space: Space, r: Record) -> Records {
 fn mark(
     c: Conn,
     records: Records,
-    table: [Entry; 192],
+    table: [Entry; Conn::ENTRIES],
     space: Space,
     number: u64,
     out: &mut [u8; 16384],

@@ -1,4 +1,4 @@
--- What is written reads back: where a frame's bytes stand, its type, its numbers, its body and the numbers behind it are read one after the other, and put together they say the same.
+-- What is written reads back: where a frame's bytes stand, its type, its numbers, its body and the numbers after it are read one after the other, and put together they say the same.
 -- Assumes nothing.
 use mathlib.Core.Path.{_≡_, refl, sym, _∙_, ap}
 use mathlib.Core.Bool.{true}
@@ -27,7 +27,7 @@ use Rattle.layouts.specs.declared.Body.the-variants as Body'
 use Rattle.fields.specs.declared.Head.the-variants as Head'
 use Rattle.frames.specs.declared.Reading.the-variants.{Got}
 use Rattle.contents.specs.Parts.{partsOf}
-use Rattle.contents.specs.Content.{bodyOf, tokenOf, wholeOf, contentOf, contents}
+use Rattle.contents.specs.Content.{bodyOf, tokenOf, insideOf, contentOf, contents}
 use Rattle.contents.specs.Taken.{takes}
 use Rattle.writing.specs.Spelled.{fourBytes, bodyBytes, spelledFrame}
 use Rattle.contents.specs.Again.{first, atIn, tokenIn, moved, again}
@@ -92,7 +92,7 @@ module _ (s out : List ℕ) (f : Frame) (at : ℕ) (t : takes (contents s f) ≡
       ∙ (λ i. Are (keeps i .a) (keeps i .b) (keeps i .c) (keeps i .d) q)
 
   writable : Writable s (l .tail) p
-  writable = let u = taken (contents s f) t in record { closed = settled f .1; whole = u .whole; low = lows .len; measure = λ i. keeps i .len; runs = u .fits }
+  writable = let u = taken (contents s f) t in record { closed = settled f .1; inside = u .inside; low = lows .len; measure = λ i. keeps i .len; runs = u .fits }
 
   body : (start : ℕ) × (token : ℕ) × FoundAgain s out q (l .tail) p start token
   body = body-back s out q (l .tail) p writable (left B A (right N (B ++ A) behind))
@@ -121,9 +121,9 @@ module _ (s out : List ℕ) (f : Frame) (at : ℕ) (t : takes (contents s f) ≡
   same : contents out g ≡ contents s f
   same =
       let b = body .2 in
-      let u : wholeOf (length out) (l .tail) (moved p (body .0) (body .1)) ≡ wholeOf (length s) (l .tail) p = b .whole ∙ sym (taken (contents s f) t .whole) in
+      let u : insideOf (length out) (l .tail) (moved p (body .0) (body .1)) ≡ insideOf (length s) (l .tail) p = b .inside ∙ sym (taken (contents s f) t .inside) in
       ap (contentOf out) (settled f .2 (body .0) (body .1))
-      ∙ (λ i. record { ty = p .ty; a = p .a; b = p .b; c = p .c; d = p .d; len = p .len; body = b .body i; token = b .its-token i; x = p .x; y = p .y; z = p .z; whole = u i })
+      ∙ (λ i. record { ty = p .ty; a = p .a; b = p .b; c = p .c; d = p .d; len = p .len; body = b .body i; token = b .its-token i; x = p .x; y = p .y; z = p .z; inside = u i })
 
   pub read-back : (h : Frame) × (anyFrameAt out at ≡ Got h (p .ty) (at + length (spelledFrame (contents s f)))) × (contents out h ≡ contents s f)
   read-back = (g, back, same)

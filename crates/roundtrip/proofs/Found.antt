@@ -26,7 +26,7 @@ use Rattle.layouts.specs.declared.Tail.the-variants.{Nothing, Counted, Remainde
 use Rattle.layouts.specs.declared.Body.the-variants as Body'
 use Rattle.fields.specs.declared.Parts.{Parts}
 use Rattle.layouts.proofs.Places.{sized-is, identity-is}
-use Rattle.contents.specs.Content.{bodyOf, tokenOf, wholeOf}
+use Rattle.contents.specs.Content.{bodyOf, tokenOf, insideOf}
 use Rattle.contents.specs.Taken.{fitting}
 use Rattle.writing.specs.Spelled.{bodyBytes}
 use Rattle.contents.specs.Again.{atIn, lenIn, tokenIn, movedIn, ended}
@@ -36,7 +36,7 @@ use Rattle.roundtrip.proofs.Standing.{slice-stands}
 -- what a writer knows of a body: its places lie inside s, its length is in range and the one that its tail has, and its runs fit
 pub record Writable (s : List ℕ) (tail : Tail) (p : Parts) : Type 0 where
   pub closed : ended tail ≡ true
-  pub whole : wholeOf (length s) tail p ≡ true
+  pub inside : insideOf (length s) tail p ≡ true
   pub low : p .len < 2 ^ 62
   pub measure : lenIn tail (p .len) ≡ p .len
   pub runs : fitting tail (p .a) (p .c) (p .d) (bodyOf s tail p) ≡ true
@@ -46,7 +46,7 @@ pub record FoundAgain (s out : List ℕ) (q : ℕ) (tail : Tail) (p : Parts) (at
   pub found : bodyAt out q tail (p .a) (p .c) (p .d) ≡ Body'.Is (atIn tail at) (lenIn tail (p .len)) (tokenIn tail token) (q + length (bodyBytes tail (p .len) (bodyOf s tail p) (tokenOf s tail p)))
   pub body : bodyOf out tail (movedIn tail p at token) ≡ bodyOf s tail p
   pub its-token : tokenOf out tail (movedIn tail p at token) ≡ tokenOf s tail p
-  pub whole : wholeOf (length out) tail (movedIn tail p at token) ≡ true
+  pub inside : insideOf (length out) tail (movedIn tail p at token) ≡ true
 
 module _ (s out : List ℕ) (q : ℕ) (p : Parts) where
   abbrev bytes : List ℕ
@@ -60,12 +60,12 @@ module _ (s out : List ℕ) (q : ℕ) (p : Parts) where
   same at h st = slice-stands out at (p .len) bytes (long h) st
 
   nothing : Writable s Nothing p → Stands out q [] → FoundAgain s out q Nothing p 0 0
-  nothing w st = record { found = rw add-zero; body = refl; its-token = refl; whole = wholly (length out) Nothing (movedIn Nothing p 0 0) (omega (arith, w .measure)) refl }
+  nothing w st = record { found = rw add-zero; body = refl; its-token = refl; inside = wholly (length out) Nothing (movedIn Nothing p 0 0) (omega (arith, w .measure)) refl }
 
   counted : Writable s Counted p → Stands out q (bytesOf (p .len) ++ bytes) → FoundAgain s out q Counted p (q + sizeOf (p .len)) 0
   unfolding countedAt
   counted w st =
-      let i = within (length s) Counted p (w .whole) .0 in
+      let i = within (length s) Counted p (w .inside) .0 in
       let n = long i in
       let r : Stands out (q + sizeOf (p .len)) bytes = rw (length-bytes (p .len)) at (right (bytesOf (p .len)) bytes st) in
       let e : q + sizeOf (p .len) + p .len ≤ length out = omega (arith, r .ends, n) in
@@ -74,25 +74,25 @@ module _ (s out : List ℕ) (q : ℕ) (p : Parts) where
         found = rw (number.back out q (p .len) (w .low) (left (bytesOf (p .len)) bytes st), sized-is (length out) (q + sizeOf (p .len)) (p .len) e) (ap (Body'.Is (q + sizeOf (p .len)) (p .len) 0) m);
         body = same (q + sizeOf (p .len)) i r;
         its-token = refl;
-        whole = wholly (length out) Counted (movedIn Counted p (q + sizeOf (p .len)) 0) e refl;
+        inside = wholly (length out) Counted (movedIn Counted p (q + sizeOf (p .len)) 0) e refl;
       }
 
   eight : Writable s Eight p → Stands out q bytes → FoundAgain s out q Eight p q 0
   eight w st =
-      let i = within (length s) Eight p (w .whole) .0 in
+      let i = within (length s) Eight p (w .inside) .0 in
       let n = long i in
       let e : q + p .len ≤ length out = omega (arith, st .ends, n) in
       record {
         found = sized-is (length out) q 8 (omega (arith, w .measure)) ∙ ap (Body'.Is q 8 0) (omega (arith, w .measure, n));
         body = same q i st;
         its-token = refl;
-        whole = wholly (length out) Eight (movedIn Eight p q 0) e refl;
+        inside = wholly (length out) Eight (movedIn Eight p q 0) e refl;
       }
 
   identity : Writable s Identity p → Stands out q (p .len ∷ (bytes ++ slice (p .token) (p .token + 16) s)) → FoundAgain s out q Identity p (q + 1) (q + 1 + p .len)
   identity w st =
       let t = slice (p .token) (p .token + 16) s in
-      let i = within (length s) Identity p (w .whole) in
+      let i = within (length s) Identity p (w .inside) in
       let n = long (i .0) in
       let tn : length t ≡ 16 = part-length s (p .token) 16 (leb-true (p .token + 16) (length s) (i .1)) in
       let g : getD out q 0 ≡ p .len = head (p .len) (bytes ++ t) st in
@@ -104,7 +104,7 @@ module _ (s out : List ℕ) (q : ℕ) (p : Parts) where
         found = identity-is out q (rw g e) ∙ rw g (ap (Body'.Is (q + 1) (p .len) (q + 1 + p .len)) m);
         body = same (q + 1) (i .0) (left bytes t r);
         its-token = slice-stands out (q + 1 + p .len) 16 t tn rt;
-        whole = wholly (length out) Identity (movedIn Identity p (q + 1) (q + 1 + p .len)) (omega arith) (le-leb (q + 1 + p .len + 16) (length out) e);
+        inside = wholly (length out) Identity (movedIn Identity p (q + 1) (q + 1 + p .len)) (omega arith) (le-leb (q + 1 + p .len + 16) (length out) e);
       }
 
   ranged : Writable s Ranges p → Stands out q (bytesAll (listed s (p .at) (2 * p .c))) → FoundAgain s out q Ranges p q 0
@@ -117,7 +117,7 @@ module _ (s out : List ℕ) (q : ℕ) (p : Parts) where
         found = rw (le-ltb (p .a) (p .d) (leb-true (p .d) (p .a) (f .0)), b .0) (ap (Body'.Is q 0 0) (ap (λ (k : ℕ). q + k) (sym (length-all l))));
         body = b .1;
         its-token = refl;
-        whole = wholly (length out) Ranges (movedIn Ranges p q 0) (omega (arith, st .ends, w .measure)) refl;
+        inside = wholly (length out) Ranges (movedIn Ranges p q 0) (omega (arith, st .ends, w .measure)) refl;
       }
 
 -- every tail that is written

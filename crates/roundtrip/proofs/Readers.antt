@@ -40,7 +40,7 @@ use Rattle.writing.proofs.Bodies.{wholly}
 use Rattle.writing.proofs.Bounds.{identity-short}
 use Rattle.contents.proofs.Taking.{fine}
 use Rattle.contents.specs.Parts.{streamType, wayType, holdingParts, partsOf}
-use Rattle.contents.specs.Content.{bodyOf, tokenInside, wholeOf, contentOf, contents}
+use Rattle.contents.specs.Content.{bodyOf, tokenInside, insideOf, contentOf, contents}
 use Rattle.contents.specs.Taken.{fitting, takes}
 use Rattle.contents.specs.Again.{first, atIn, lenIn, tokenIn, again}
 
@@ -176,7 +176,7 @@ record BodyRead (s : List ℕ) (tail : Tail) (p : Parts) : Type 0 where
   at-kept : atIn tail (p .at) ≡ p .at
   len-kept : lenIn tail (p .len) ≡ p .len
   token-kept : tokenIn tail (p .token) ≡ p .token
-  whole : wholeOf (length s) tail p ≡ true
+  inside : insideOf (length s) tail p ≡ true
   low : Low tail (p .len) → p .len < 2 ^ 62
   runs : fitting tail (p .a) (p .c) (p .d) (bodyOf s tail p) ≡ true
 
@@ -202,7 +202,7 @@ module _ (s : List ℕ) (q : ℕ) (p : Parts) (next : ℕ) where
         at-kept = refl;
         len-kept = refl;
         token-kept = sym (r .2);
-        whole = wholly (length s) Counted p (omega (arith, r .0, r .1, r .3)) refl;
+        inside = wholly (length s) Counted p (omega (arith, r .0, r .1, r .3)) refl;
         low = λ h. omega (arith, number.sound s q e .low, r .1);
         runs = refl;
       })
@@ -218,7 +218,7 @@ module _ (s : List ℕ) (q : ℕ) (p : Parts) (next : ℕ) where
         at-kept = refl;
         len-kept = refl;
         token-kept = k;
-        whole = wholly (length s) Remainder p (omega (arith, i, j, ltb-false (length s) q e)) refl;
+        inside = wholly (length s) Remainder p (omega (arith, i, j, ltb-false (length s) q e)) refl;
         low = λ h. h;
         runs = refl;
       })
@@ -230,7 +230,7 @@ module _ (s : List ℕ) (q : ℕ) (p : Parts) (next : ℕ) where
         at-kept = refl;
         len-kept = sym (r .1);
         token-kept = sym (r .2);
-        whole = wholly (length s) Eight p (omega (arith, r .0, r .1, r .3)) refl;
+        inside = wholly (length s) Eight p (omega (arith, r .0, r .1, r .3)) refl;
         low = λ h. omega (arith, r .1);
         runs = refl;
       }
@@ -247,7 +247,7 @@ module _ (s : List ℕ) (q : ℕ) (p : Parts) (next : ℕ) where
         at-kept = refl;
         len-kept = refl;
         token-kept = refl;
-        whole = wholly (length s) Identity p (omega (arith, i, j, h)) (le-leb (p .token + 16) (length s) (omega (arith, k, h)));
+        inside = wholly (length s) Identity p (omega (arith, i, j, h)) (le-leb (p .token + 16) (length s) (omega (arith, k, h)));
         low = λ l. l;
         runs = refl;
       })
@@ -264,7 +264,7 @@ module _ (s : List ℕ) (q : ℕ) (p : Parts) (next : ℕ) where
         at-kept = refl;
         len-kept = j;
         token-kept = k;
-        whole = wholly (length s) Ranges p (omega (arith, i, j)) refl;
+        inside = wholly (length s) Ranges p (omega (arith, i, j)) refl;
         low = λ h. omega (arith, j);
         runs = rw (le-leb (p .d) (p .a) (ltb-false (p .a) (p .d) e)) (subst (λ (at : ℕ). fits (p .a - p .d) (p .c) (listed s at (2 * p .c)) ≡ true) i (read-fits s (p .c) q (p .a - p .d) g));
       }))
@@ -274,7 +274,7 @@ body-read s q Nothing p next w e =
     let i : 0 ≡ p .at = cc in
     let j : 0 ≡ p .len = cc in
     let k : 0 ≡ p .token = cc in
-    record { at-kept = i; len-kept = j; token-kept = k; whole = wholly (length s) Nothing p (omega (arith, i, j)) refl; low = λ h. omega (arith, j); runs = refl }
+    record { at-kept = i; len-kept = j; token-kept = k; inside = wholly (length s) Nothing p (omega (arith, i, j)) refl; low = λ h. omega (arith, j); runs = refl }
 body-read s q Counted p next w e = counted s q p next e
 body-read s q Remainder p next w e = remainder s q p next e
 body-read s q Eight p next w e = eight s q p next e
@@ -356,16 +356,16 @@ module _ (t : List ℕ) (at ty : ℕ) (f : Frame) (n : ℕ) (w : at ≤ length t
       let l = line lines ty (omega arith) (omega (arith, leb-true ty 30 k)) e got in
       let same : partsOf f ≡ got = ap partsOf (r .made) ∙ subst (λ (p : Parts). partsOf (frameOf p) ≡ p) normal (l .0) in
       subst (λ (p : Parts). takes (contentOf t p) ≡ true) (sym same)
-      (fine (contentOf t got) (body .whole)
+      (fine (contentOf t got) (body .inside)
       (eight-low (r .a) (r .b) (r .c) (r .d) (r .x) (r .y) (r .z) (r .len) (before .a-low) (before .b-low) (before .c-low) (before .d-low) (behind .a-low) (behind .b-low) (behind .c-low) (body .low (l .1 (r .a) (r .b) (r .len) (r .right))))
       (r .right) ∙ body .runs)
 
   -- a STREAM frame of any type says the same as one with LEN
   streamed : eqb (ty / 8) 1 ≡ true → takes (contents t f) ≡ true
-  unfolding frameOf faultOf wholeOf
+  unfolding frameOf faultOf insideOf
   streamed e =
       let s : f ≡ Stream (r .a) (r .b) (eqb (ty % 2) 1) (r .start) (r .len) = r .made ∙ rw e in
-      let i = and-eq-true-iff (leb (r .start + r .len) (length t)) (tokenInside (length t) (layoutOf ty .tail) got) .0 (body .whole) in
+      let i = and-eq-true-iff (leb (r .start + r .len) (length t)) (tokenInside (length t) (layoutOf ty .tail) got) .0 (body .inside) in
       let a : aboveOf (r .b) (r .len) ≡ false = rw e at (r .right) in
       rw s (stream t (r .a) (r .b) (eqb (ty % 2) 1) (r .start) (r .len) (before .a-low) (leb-true (r .start + r .len) (length t) (i .0)) a)
 

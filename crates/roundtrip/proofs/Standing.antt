@@ -58,13 +58,13 @@ optional-back s at false v h st i n e = rw (e, add-zero)
 pub numbers-back : (s : List ℕ) (at n a b c d : ℕ) → inRange (a ∷ b ∷ c ∷ d ∷ []) ≡ true → Stands s at (fourBytes n a b c d)
     → numbersAt s at n ≡ Are (first 0 n a) (first 1 n b) (first 2 n c) (first 3 n d) (at + length (fourBytes n a b c d))
 unfolding numbersAt
-numbers-back s at n a b c d r whole =
+numbers-back s at n a b c d r inside =
     let A = bytesIf (ltb 0 n) a in
     let B = bytesIf (ltb 1 n) b in
     let C = bytesIf (ltb 2 n) c in
     let D = bytesIf (ltb 3 n) d in
     let low = four-in-range a b c d r in
-    let st : Stands s at (A ++ (B ++ (C ++ D))) = rw (one-by-one n a b c d) at whole in
+    let st : Stands s at (A ++ (B ++ (C ++ D))) = rw (one-by-one n a b c d) at inside in
     let sb = right A (B ++ (C ++ D)) st in
     let sc = right B (C ++ D) sb in
     let oa = optional-back s at (ltb 0 n) a (low .0) (left A (B ++ (C ++ D)) st) 0 n refl in

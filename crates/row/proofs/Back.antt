@@ -1,4 +1,4 @@
--- A row that was written reads back, number after number: where it stands, its first number is read and the rest stands behind it.
+-- A row that was written reads back, number after number: where it stands, its first number is read and the rest stands after it.
 -- Assumes nothing.
 use mathlib.Core.Path.{_≡_, refl, sym, _∙_, subst}
 use mathlib.Core.Bool.{true, false, not, and-eq-true-iff}
@@ -41,7 +41,7 @@ range-take (suc n) (v ∷ vs) r =
     let b = and-eq-true-iff (leb v (2 ^ 62 - 1)) (inRange vs) .0 r in
     rw (b .0) (range-take n vs (b .1))
 
--- the first number of a row reads back, and the rest stands behind it
+-- the first number of a row reads back, and the rest stands after it
 pub peel : (s : List ℕ) (at v : ℕ) (vs : List ℕ) → inRange (v ∷ vs) ≡ true → Stands s at (bytesAll (v ∷ vs))
     → (numberAt s at ≡ Is v (at + sizeOf v)) × (inRange vs ≡ true) × Stands s (at + sizeOf v) (bytesAll vs)
 unfolding bytesAll inRange

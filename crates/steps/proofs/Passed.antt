@@ -34,7 +34,7 @@ module _ (s : List ℕ) where
   unfolding pastPadding pastOf
   ended i h = let k : length s - i ≡ 0 = omega arith in rw k
 
--- the way from a place to the place r behind it: every byte that is passed is there and is zero, and the one at r, if there is one, is not
+-- the way from a place to the place r after it: every byte that is passed is there and is zero, and the one at r, if there is one, is not
 pub record Passed (s : List ℕ) (at r : ℕ) : Type 0 where
   pub onward : at ≤ r
   pub inside : (i : ℕ) → at ≤ i → i < r → i < length s

@@ -6,9 +6,9 @@ use Rattle.streams.specs.declared.Mark.{Mark}
 use Rattle.streams.specs.Conn.{isOpen}
 use Rattle.steps.specs.declared.Gate.{Gate}
 
--- whole says whether the connection and its table fit
+-- fits says whether the connection and its table fit
 unfoldable pub gateOf : Bool → Mark → Gate
-gateOf whole mark =
-    not whole ⇒ record { passes = false; answer = DoesNotFit }
+gateOf fits mark =
+    not fits ⇒ record { passes = false; answer = DoesNotFit }
     ∣ not (isOpen mark) ⇒ record { passes = false; answer = Closed }
     ∣ record { passes = true; answer = Accepted }

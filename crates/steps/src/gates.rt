@@ -5,11 +5,11 @@ use crate::Gate;
 use answers::Answer;
 use streams::Mark;
 
-// 120, then 101; `whole` says whether the table fits.
-pub fn gate(whole: bool, mark: Mark) -> Gate
-    ensures { λ r. ⌜ r ≡ gateOf whole mark ⌝ }
+// 120, then 101; `fits` says whether the table fits.
+pub fn gate(fits: bool, mark: Mark) -> Gate
+    ensures { λ r. ⌜ r ≡ gateOf fits mark ⌝ }
 {
-    if !whole {
+    if !fits {
         return Gate {
             passes: false,
             answer: Answer::DoesNotFit,

@@ -1,4 +1,4 @@
-// Opening behind its own 120, and the entries as opening sets them.
+// Opening after its own 120, and the entries as opening sets them.
 ghost use mathlib.Core.Path.{_≡_};
 ghost use Prim.Native.Nat.{_/_};
 ghost use Rattle.halves.specs.Stream.{mostStreams};

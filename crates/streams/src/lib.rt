@@ -158,7 +158,7 @@ impl Conn {
     // The ceilings: 64 streams a type, and 2^62-1 for each credit.
     pub const MOST_STREAMS: u64 = halves::Stream::MOST;
 
-    pub const MOST_CREDIT: u64 = 4611686018427387903;
+    pub const MOST_CREDIT: u64 = wire::MOST;
 
     // The entries of a table: 64 for each half that receives.
     pub const ENTRIES: usize = 192;

@@ -20,7 +20,7 @@ digitsOf (suc k) n =
 unfoldable pub decimalOf : ℕ → List ℕ
 decimalOf n = digitsOf 19 (n / 10) ++ ((48 + n % 10) ∷ [])
 
--- the value of digits that stand behind those of v
+-- the value of digits that stand after those of v
 unfoldable pub valueFrom : ℕ → List ℕ → ℕ
 valueFrom v [] = v
 valueFrom v (c ∷ l) = valueFrom (v * 10 + (c - 48)) l

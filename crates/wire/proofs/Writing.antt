@@ -91,7 +91,7 @@ bytes-written l out at {r} {after} e {n} p =
     let f : a .0 ≡ l = let g = a .1 in cc in
     subst (λ (m : List ℕ). Written m out at n after) f (a .2)
 
--- what was accepted was not refused: the test for it does not hold, and what is written is what stands behind it
+-- what was accepted was not refused: the test for it does not hold, and what is written is what stands after it
 pub past : (b : Bool) (a : Answer) (d : Draft) (out : List ℕ) (at : ℕ) {r : Wrote} {after : List ℕ} → (r, after) ≡ writes (b ⇒ Never a ∣ d) out at → {n : ℕ} → r ≡ To n
     → (b ≡ false) × ((r, after) ≡ writes d out at)
 unfolding writes

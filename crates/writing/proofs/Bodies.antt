@@ -13,18 +13,18 @@ use Rattle.wire.specs.Number.{bytesOf, sizeOf}
 use Rattle.wire.proofs.Exit.{length-bytes}
 use Rattle.fields.specs.declared.Parts.{Parts}
 use Rattle.layouts.specs.declared.Tail.{Tail}
-use Rattle.contents.specs.Content.{tokenInside, wholeOf}
+use Rattle.contents.specs.Content.{tokenInside, insideOf}
 
 -- places that lie inside
-pub within : (n : ℕ) (tail : Tail) (p : Parts) → wholeOf n tail p ≡ true → (p .at + p .len ≤ n) × (tokenInside n tail p ≡ true)
-unfolding wholeOf
+pub within : (n : ℕ) (tail : Tail) (p : Parts) → insideOf n tail p ≡ true → (p .at + p .len ≤ n) × (tokenInside n tail p ≡ true)
+unfolding insideOf
 within n tail p e =
     let b = and-eq-true-iff (leb (p .at + p .len) n) (tokenInside n tail p) .0 e in
     (leb-true (p .at + p .len) n (b .0), b .1)
 
 -- and the other way round
-pub wholly : (n : ℕ) (tail : Tail) (p : Parts) → p .at + p .len ≤ n → tokenInside n tail p ≡ true → wholeOf n tail p ≡ true
-unfolding wholeOf
+pub wholly : (n : ℕ) (tail : Tail) (p : Parts) → p .at + p .len ≤ n → tokenInside n tail p ≡ true → insideOf n tail p ≡ true
+unfolding insideOf
 wholly n tail p h k = rw (le-leb (p .at + p .len) n h, k)
 
 pub part-length : (s : List ℕ) (from len : ℕ) → from + len ≤ length s → length (slice from (from + len) s) ≡ len

@@ -60,7 +60,7 @@ only-identity ty e =
     let d = List·getD-eq-default layouts (layout 0 Nothing 0) {n = ty} h in
     impossible cc)
 
--- no layout has more than four numbers before its tail, or behind it
+-- no layout has more than four numbers before its tail, or after it
 few : ℕ → Bool
 few ty = leb (layoutOf ty .numbers) 4 && leb (layoutOf ty .after) 4
 
@@ -99,7 +99,7 @@ bounded s p e =
     let t = taken (contentOf s p) e in
     let l = low (contentOf s p) e in
     record {
-      whole = t .whole;
+      inside = t .inside;
       len = l .len;
       count = l .c;
       byte = in-byte (layoutOf (p .ty) .tail) (p .len) (λ i. omega (arith, identity-short (p .a) (p .b) (p .len) (rw (only-identity (p .ty) i) at (t .right))));

@@ -74,7 +74,7 @@ unfolding inRange
 range-four a b c d h i j k =
     rw (le-leb a (2 ^ 62 - 1) (omega arith), le-leb b (2 ^ 62 - 1) (omega arith), le-leb c (2 ^ 62 - 1) (omega arith), le-leb d (2 ^ 62 - 1) (omega arith))
 
--- the pieces of a frame that can be written, one after the other into an output with room for all: each has room behind those before it, and together they are the frame
+-- the pieces of a frame that can be written, one after the other into an output with room for all: each has room after those before it, and together they are the frame
 module _ (f : Content) (low : f .ty < 2 ^ 62) (t : takes f ≡ true) (out : List ℕ) (at : ℕ) (room : at + length (spelledFrame f) ≤ length out) where
   lengths : length (spelledFrame f) ≡ length (bytesOf (f .ty)) + length (front f) + length (middle f) + length (back f)
   lengths = spelled-length f ∙ rw (← length-bytes (f .ty))

@@ -15,7 +15,7 @@ use Rattle.layouts.specs.Layout.{layoutOf}
 use Rattle.fields.specs.declared.Parts.{Parts}
 use Rattle.layouts.specs.declared.Tail.{Tail}
 use Rattle.layouts.specs.declared.Tail.the-variants.{Nothing, Counted, Remainder, Eight, Identity, Ranges}
-use Rattle.contents.specs.Content.{Content, wholeOf}
+use Rattle.contents.specs.Content.{Content, insideOf}
 use Rattle.contents.specs.Taken.{takes}
 
 -- the place after what was written, 0 after a refusal
@@ -27,7 +27,7 @@ placeAfter (Refused answer) = 0
 unfoldable pub fourBytes : ℕ → ℕ → ℕ → ℕ → ℕ → List ℕ
 fourBytes n a b c d = bytesAll (take n (a ∷ b ∷ c ∷ d ∷ []))
 
--- what stands behind them
+-- what stands after them
 abbrev pub bodyBytes : Tail → ℕ → List ℕ → List ℕ → List ℕ
 bodyBytes Nothing len body token = []
 bodyBytes Counted len body token = bytesOf len ++ body
@@ -58,7 +58,7 @@ InByte Ranges len = Unit
 
 -- what a body must be so that it can be written: its places lie inside a slice of n bytes, and its numbers are in range
 pub record Bounded (n : ℕ) (tail : Tail) (p : Parts) : Type 0 where
-  pub whole : wholeOf n tail p ≡ true
+  pub inside : insideOf n tail p ≡ true
   pub len : p .len < 2 ^ 62
   pub count : p .c < 2 ^ 62
   pub byte : InByte tail (p .len)

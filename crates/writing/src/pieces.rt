@@ -76,7 +76,7 @@ fn put_counted(out: &mut [u8], at: usize, s: &[u8], from: usize, len: usize) -> 
     put_bytes(out, q, s, from, len)
 }
 
-// A connection ID behind its length, and a reset token.
+// A connection ID after its length, and a reset token.
 fn put_identity(out: &mut [u8], at: usize, s: &[u8], from: usize, len: usize, token: usize) -> usize
     requires { ⌜ (len < 256) × (from + len ≤ length (now s)) × (token + 16 ≤ length (now s)) × (at + 1 + len + 16 ≤ length (now out)) ⌝ }
     ensures { λ r. ⌜ (r ≡ at + 1 + len + 16) × (now (out .exit) ≡ sets (now (out .entry)) at (len ∷ (slice from (from + len) (now (s .entry)) ++ slice token (token + 16) (now (s .entry))))) ⌝ }

@@ -1,4 +1,4 @@
--- `closed` meets its contract: the code stands behind the text, and the front of the line is what is put.
+-- `closed` meets its contract: the code stands after the text, and the front of the line is what is put.
 -- Assumes nothing.
 use mathlib.Core.Path.{sym}
 use borrow.Author.Needs.{needs}

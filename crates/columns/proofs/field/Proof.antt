@@ -1,4 +1,4 @@
--- `field` meets its contract: there is room for the number, and the byte behind it makes the field.
+-- `field` meets its contract: there is room for the number, and the byte after it makes the field.
 -- Assumes nothing.
 use native.Mathlib.Omega.{arith}
 use borrow.Author.Needs.{needs}

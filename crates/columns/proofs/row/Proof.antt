@@ -1,4 +1,4 @@
--- `row` meets its contract: each field has room behind those before it, together they are the row, and the front of the line is what is put.
+-- `row` meets its contract: each field has room after those before it, together they are the row, and the front of the line is what is put.
 -- Assumes nothing.
 use mathlib.Core.Path.{sym}
 use borrow.Author.Needs.{needs}

@@ -1,4 +1,4 @@
--- `fields::read` meets its contract: it reads what the layout says, in the order of the definition, and goes on with what stands behind it.
+-- `fields::read` meets its contract: it reads what the layout says, in the order of the definition, and goes on with what stands after it.
 -- Assumes nothing.
 use mathlib.Core.Path.{sym, _∙_}
 use borrow.Author.Needs.{needs}

@@ -1,4 +1,4 @@
--- `records::check_of` meets its contract: the three tests are the three facts of a record that can be.
+-- `records::check_of` meets its contract: the three tests are the three facts of a record that fits.
 -- Assumes nothing.
 use borrow.Author.Needs.{needs}
 use native.Mathlib.Omega.{arith}

@@ -1,4 +1,4 @@
--- `ring::is_clean` meets its contract: the numbers from the top on have the rest of its word and the words behind it.
+-- `ring::is_clean` meets its contract: the numbers from the top on have the rest of its word and the words after it.
 -- Assumes nothing.
 use borrow.Author.Needs.{needs}
 use mathlib.Core.Bool.{true≢false}

@@ -1,4 +1,4 @@
--- `writing::put` meets its contract: each piece is in range and has room behind those before it, and together they are the frame.
+-- `writing::put` meets its contract: each piece is in range and has room after those before it, and together they are the frame.
 -- Assumes nothing.
 use mathlib.Core.Path.{_≡_, sym}
 use native.Mathlib.Omega.{arith}

@@ -5,12 +5,12 @@ use Prim.Native.Nat.{_+_}
 use native.Mathlib.Omega.{arith}
 use borrow.Author.Needs.{needs}
 use borrow.Author.Tests.{le-leb, lt-leb}
-use Rattle.contents.specs.Content.{wholeOf}
+use Rattle.contents.specs.Content.{insideOf}
 use Rattle.contents.proofs.checks.inside.Statement.{statement}
 use Rattle.contents.proofs.checks.inside.Tie as tie
 
 pub inside-spec : {M : Type 1} → statement M
-unfolding wholeOf
+unfolding insideOf
 inside-spec =
     tie.close
     (tie.spec

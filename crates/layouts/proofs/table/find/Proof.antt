@@ -1,4 +1,4 @@
--- `layouts::table::find` meets its contract: the code's rows are the definition's table, packed, and are unpacked to it, each by one computation; a type behind it has the layout that the definition gives by default.
+-- `layouts::table::find` meets its contract: the code's rows are the definition's table, packed, and are unpacked to it, each by one computation; a type after it has the layout that the definition gives by default.
 -- Assumes nothing.
 use mathlib.Core.Path.{_≡_, sym, _∙_}
 use mathlib.Core.List.{List, map}

@@ -1,4 +1,4 @@
--- `gather::grown` meets its contract: what writing the piece behind the line answers and leaves is what the line and the row become.
+-- `gather::grown` meets its contract: what writing the piece after the line answers and leaves is what the line and the row become.
 -- Assumes nothing.
 use mathlib.Core.Path.{ap}
 use borrow.Author.Needs.{needs}

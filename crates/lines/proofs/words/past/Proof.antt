@@ -1,4 +1,4 @@
--- `words::past` meets its contract: behind the first blank, or the end, behind which nothing stands.
+-- `words::past` meets its contract: after the first blank, or the end, after which nothing stands.
 -- Assumes nothing.
 use native.Mathlib.Omega.{arith}
 use borrow.Author.Needs.{needs}

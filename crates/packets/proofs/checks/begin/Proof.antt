@@ -11,7 +11,7 @@ use Rattle.packets.proofs.checks.begin.Tie as tie
 
 returns : tie.Need-returns
 unfolding beginOf
-returns c = rw (not-true (c .before .before .before .args .whole) (c .before .if1 .taken)) (c .refused .ensures)
+returns c = rw (not-true (c .before .before .before .args .fits) (c .before .if1 .taken)) (c .refused .ensures)
 
 returns-2 : tie.Need-returns-2
 unfolding beginOf
@@ -19,7 +19,7 @@ returns-2 c =
     let f = c .before .before in
     let a = f .before .before .before .before .before .before .before .args in
     let unfit : recordsFit (a .t2) ≡ false = not-true _ (rw (f .fit .ensures) at (c .before .if2 .taken)) in
-    rw (not-false (a .whole) (f .before .before .before .before .before .if1 .left), unfit) (c .refused2 .ensures)
+    rw (not-false (a .fits) (f .before .before .before .before .before .if1 .left), unfit) (c .refused2 .ensures)
 
 returns-3 : tie.Need-returns-3
 unfolding beginOf
@@ -28,7 +28,7 @@ returns-3 c =
     let f = o .before .before in
     let a = f .before .before .before .before .before .before .before .args in
     let fits : recordsFit (a .t2) ≡ true = not-false _ (rw (f .fit .ensures) at (o .before .if2 .left)) in
-    rw (not-false (a .whole) (f .before .before .before .before .before .if1 .left), fits, sym (o .is-open .ensures) ∙ not-true _ (c .before .if3 .taken)) (c .refused3 .ensures)
+    rw (not-false (a .fits) (f .before .before .before .before .before .if1 .left), fits, sym (o .is-open .ensures) ∙ not-true _ (c .before .if3 .taken)) (c .refused3 .ensures)
 
 returns-4 : tie.Need-returns-4
 unfolding beginOf
@@ -38,7 +38,7 @@ returns-4 c =
     let f = o .before .before in
     let a = f .before .before .before .before .before .before .before .args in
     let fits : recordsFit (a .t2) ≡ true = not-false _ (rw (f .fit .ensures) at (o .before .if2 .left)) in
-    rw (not-false (a .whole) (f .before .before .before .before .before .if1 .left), fits, sym (o .is-open .ensures) ∙ not-false _ (t .before .if3 .left), sym (t .header .ensures) ∙ c .before .enum-told .given .1) (c .refused4 .ensures)
+    rw (not-false (a .fits) (f .before .before .before .before .before .if1 .left), fits, sym (o .is-open .ensures) ∙ not-false _ (t .before .if3 .left), sym (t .header .ensures) ∙ c .before .enum-told .given .1) (c .refused4 .ensures)
 
 returns-5 : tie.Need-returns-5
 unfolding beginOf
@@ -49,7 +49,7 @@ returns-5 c =
     let f = o .before .before in
     let a = f .before .before .before .before .before .before .before .args in
     let fits : recordsFit (a .t2) ≡ true = not-false _ (rw (f .fit .ensures) at (o .before .if2 .left)) in
-    rw (not-false (a .whole) (f .before .before .before .before .before .if1 .left), fits, sym (o .is-open .ensures) ∙ not-false _ (t .before .if3 .left), sym (t .header .ensures) ∙ k .kind .given .1) (c .by-kind .ensures)
+    rw (not-false (a .fits) (f .before .before .before .before .before .if1 .left), fits, sym (o .is-open .ensures) ∙ not-false _ (t .before .if3 .left), sym (t .header .ensures) ∙ k .kind .given .1) (c .by-kind .ensures)
 
 pub begin-spec : {M : Type 1} → statement M
 begin-spec =

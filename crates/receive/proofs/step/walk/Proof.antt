@@ -192,7 +192,7 @@ module _ {M : Type 1} (𝓤 : URA M) (H : Heap 𝓤) (A : Atoms 𝓤) (W : Given
   says-at : (x y : Stopped × List Entry) → x ≡ y → (x .0 ≡ y .0) × (x .1 ≡ y .1)
   says-at x y e = (ap (λ (w : Stopped × List Entry). w .0) e, ap (λ (w : Stopped × List Entry). w .1) e)
 
-  -- what is left from behind the PADDING is what was asked
+  -- what is left from after the PADDING is what was asked
   here : (s : St) → reached (further s .steps) (s .d) (s .zs) bs (i′ s) kind ≡ bare (walkAll c ys bs p kind)
   here s = further s .same ∙ s .far
 

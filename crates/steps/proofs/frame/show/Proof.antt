@@ -1,4 +1,4 @@
--- `steps::frame::show` meets its contract: the frame is handed over if it was read, else its type if that can be.
+-- `steps::frame::show` meets its contract: the frame is shown whole if it was read, else its type if that can be.
 -- Assumes nothing.
 use borrow.Author.Needs.{needs}
 use mathlib.Core.Path.{sym, _∙_}

@@ -9,15 +9,15 @@ use Rattle.steps.proofs.gates.gate.Tie as tie
 
 returns : tie.Need-returns
 unfolding gateOf
-returns c = rw (not-true (c .before .args .whole) (c .if1 .taken))
+returns c = rw (not-true (c .before .args .fits) (c .if1 .taken))
 
 returns-2 : tie.Need-returns-2
 unfolding gateOf
-returns-2 c = rw (not-false (c .before .before .before .args .whole) (c .before .before .if1 .left), sym (c .before .is-open .ensures) ∙ not-true _ (c .if2 .taken))
+returns-2 c = rw (not-false (c .before .before .before .args .fits) (c .before .before .if1 .left), sym (c .before .is-open .ensures) ∙ not-true _ (c .if2 .taken))
 
 returns-3 : tie.Need-returns-3
 unfolding gateOf
-returns-3 c = rw (not-false (c .before .before .before .args .whole) (c .before .before .if1 .left), sym (c .before .is-open .ensures) ∙ not-false _ (c .if2 .left))
+returns-3 c = rw (not-false (c .before .before .before .args .fits) (c .before .before .if1 .left), sym (c .before .is-open .ensures) ∙ not-false _ (c .if2 .left))
 
 pub gate-spec : {M : Type 1} → statement M
 gate-spec =

@@ -1,4 +1,4 @@
--- `decimal::read` meets its contract: what is left from the place on, behind the value so far, is digits if all is, and has the value of all; a value that is too large stays so.
+-- `decimal::read` meets its contract: what is left from the place on, after the value so far, is digits if all is, and has the value of all; a value that is too large stays so.
 -- Assumes nothing.
 use mathlib.Core.Path.{_≡_, sym, _∙_}
 use mathlib.Core.Bool.{true, false}

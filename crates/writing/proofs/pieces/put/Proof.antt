@@ -16,13 +16,13 @@ put-counted-requires : tie.Need-put-counted-requires
 put-counted-requires c κs =
     let start = c .before .before .before .before .before in
     let b = start .pre .0 in
-    (b .len, within _ _ _ (b .whole) .0, rw (c .before .enum-told2 .given .1) at (start .pre .1))
+    (b .len, within _ _ _ (b .inside) .0, rw (c .before .enum-told2 .given .1) at (start .pre .1))
 
 put-bytes-requires : tie.Need-put-bytes-requires
 put-bytes-requires c κs =
     let start = c .before .before .before .before .before in
     let a = start .args in
-    let w = within _ _ _ (start .pre .0 .whole) .0 in
+    let w = within _ _ _ (start .pre .0 .inside) .0 in
     let r = rw (c .before .enum-told3 .given .1) at (start .pre .1) in
     (w, omega (arith, r, part-length (a .s .now) (a .p .at) (a .p .len) w))
 
@@ -30,7 +30,7 @@ put-bytes-requires-2 : tie.Need-put-bytes-requires-2
 put-bytes-requires-2 c κs =
     let start = c .before .before .before .before .before in
     let a = start .args in
-    let w = within _ _ _ (start .pre .0 .whole) .0 in
+    let w = within _ _ _ (start .pre .0 .inside) .0 in
     let r = rw (c .before .enum-told4 .given .1) at (start .pre .1) in
     (w, omega (arith, r, part-length (a .s .now) (a .p .at) (a .p .len) w))
 
@@ -39,7 +39,7 @@ put-identity-requires c κs =
     let start = c .before .before .before .before .before in
     let a = start .args in
     let e = c .before .enum-told5 .given .1 in
-    let w = within _ _ _ (start .pre .0 .whole) in
+    let w = within _ _ _ (start .pre .0 .inside) in
     let t = leb-true _ _ (rw e at (w .1)) in
     let r = rw e at (start .pre .1) in
     (rw e at (start .pre .0 .byte), w .0, t, omega (arith, r, identity-length (a .s .now) (a .p .at) (a .p .len) (a .p .token) (w .0) t))
@@ -56,7 +56,7 @@ returns-3 c =
     let b = c .before .before in
     let start = b .before .before .before .before .before .before in
     let a = start .args in
-    let l = part-length (a .s .now) (a .p .at) (a .p .len) (within _ _ _ (start .pre .0 .whole) .0) in
+    let l = part-length (a .s .now) (a .p .at) (a .p .len) (within _ _ _ (start .pre .0 .inside) .0) in
     rw (b .before .before .enum-told3 .given .1) (omega (arith, b .put-bytes .ensures .0, l), b .put-bytes .ensures .1)
 
 returns-4 : tie.Need-returns-4
@@ -64,7 +64,7 @@ returns-4 c =
     let b = c .before .before in
     let start = b .before .before .before .before .before .before in
     let a = start .args in
-    let l = part-length (a .s .now) (a .p .at) (a .p .len) (within _ _ _ (start .pre .0 .whole) .0) in
+    let l = part-length (a .s .now) (a .p .at) (a .p .len) (within _ _ _ (start .pre .0 .inside) .0) in
     rw (b .before .before .enum-told4 .given .1) (omega (arith, b .put-bytes2 .ensures .0, l), b .put-bytes2 .ensures .1)
 
 returns-5 : tie.Need-returns-5
@@ -73,7 +73,7 @@ returns-5 c =
     let start = b .before .before .before .before .before .before in
     let a = start .args in
     let e = b .before .before .enum-told5 .given .1 in
-    let w = within _ _ _ (start .pre .0 .whole) in
+    let w = within _ _ _ (start .pre .0 .inside) in
     let l = identity-length (a .s .now) (a .p .at) (a .p .len) (a .p .token) (w .0) (leb-true _ _ (rw e at (w .1))) in
     rw e (omega (arith, b .put-identity .ensures .0, l), b .put-identity .ensures .1)
 

@@ -1,4 +1,4 @@
--- `writing::pieces::put_bytes` meets its contract: storing the bytes that are left behind those that are stored is storing all, and each turn stores one.
+-- `writing::pieces::put_bytes` meets its contract: storing the bytes that are left after those that are stored is storing all, and each turn stores one.
 -- Assumes nothing.
 use mathlib.Core.Path.{_≡_, refl, _∙_}
 use Prim.Native.Nat.{_+_, _-_, _≤_}

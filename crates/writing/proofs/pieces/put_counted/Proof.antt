@@ -1,4 +1,4 @@
--- `writing::pieces::put_counted` meets its contract: the length is written, and the bytes behind it.
+-- `writing::pieces::put_counted` meets its contract: the length is written, and the bytes after it.
 -- Assumes nothing.
 use mathlib.Core.Path.{_≡_, _∙_}
 use native.Mathlib.Omega.{arith}

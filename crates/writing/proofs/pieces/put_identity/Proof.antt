@@ -1,4 +1,4 @@
--- `writing::pieces::put_identity` meets its contract: the length is stored in its byte, and the two runs of bytes behind it join.
+-- `writing::pieces::put_identity` meets its contract: the length is stored in its byte, and the two runs of bytes after it join.
 -- Assumes nothing.
 use native.Mathlib.Numerals.{add-one}
 use native.Mathlib.Omega.{arith}

@@ -19,13 +19,13 @@ add-result c =
 listed-size-requires : tie.Need-listed-size-requires
 listed-size-requires c κs =
     let start = c .before .before .before .before in
-    omega (arith, within _ _ _ (start .pre .whole) .0)
+    omega (arith, within _ _ _ (start .pre .inside) .0)
 
 returns-2 : tie.Need-returns-2
 returns-2 c =
     let start = c .before .before .before .before .before in
     let a = start .args in
-    let w = within _ _ _ (start .pre .whole) .0 in
+    let w = within _ _ _ (start .pre .inside) .0 in
     rw (c .before .before .enum-told2 .given .1)
     (omega (arith, c .before .size .ensures, counted-length (now (a .s)) (a .p .at) (a .p .len) w), omega (arith, c .before .size .ensures, size-bounds (a .p .len), start .pre .len))
 
@@ -33,20 +33,20 @@ returns-3 : tie.Need-returns-3
 returns-3 c =
     let start = c .before .before .before in
     let a = start .args in
-    rw (c .enum-told3 .given .1) (sym (part-length (now (a .s)) (a .p .at) (a .p .len) (within _ _ _ (start .pre .whole) .0)), omega (arith, start .pre .len))
+    rw (c .enum-told3 .given .1) (sym (part-length (now (a .s)) (a .p .at) (a .p .len) (within _ _ _ (start .pre .inside) .0)), omega (arith, start .pre .len))
 
 returns-4 : tie.Need-returns-4
 returns-4 c =
     let start = c .before .before .before in
     let a = start .args in
-    rw (c .enum-told4 .given .1) (sym (part-length (now (a .s)) (a .p .at) (a .p .len) (within _ _ _ (start .pre .whole) .0)), omega (arith, start .pre .len))
+    rw (c .enum-told4 .given .1) (sym (part-length (now (a .s)) (a .p .at) (a .p .len) (within _ _ _ (start .pre .inside) .0)), omega (arith, start .pre .len))
 
 returns-5 : tie.Need-returns-5
 returns-5 c =
     let start = c .before .before .before .before in
     let a = start .args in
     let e = c .before .enum-told5 .given .1 in
-    let w = within _ _ _ (start .pre .whole) in
+    let w = within _ _ _ (start .pre .inside) in
     rw e
     (sym (identity-length (now (a .s)) (a .p .at) (a .p .len) (a .p .token) (w .0) (leb-true _ _ (rw e at (w .1)))), omega (arith, start .pre .len))
 

@@ -1,9 +1,9 @@
 -- `taken::too_long` meets its contract: the comparison is the definition.
 -- Assumes nothing.
 use mathlib.Core.Path.{refl}
-use Rattle.rows.specs.Listing.{tooLong}
-use Rattle.rows.proofs.taken.too_long.Statement.{statement}
-use Rattle.rows.proofs.taken.too_long.Tie as tie
+use Rattle.report.specs.Listing.{tooLong}
+use Rattle.report.proofs.taken.too_long.Statement.{statement}
+use Rattle.report.proofs.taken.too_long.Tie as tie
 
 returns : tie.Need-returns
 unfolding tooLong

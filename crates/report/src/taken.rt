@@ -1,7 +1,7 @@
 // What the listing writes of a frame that was taken, where it goes on, and its last line.
 ghost use mathlib.Core.Path.{_≡_};
 ghost use Rattle.wire.specs.Writing.{Bytes, writes};
-ghost use Rattle.rows.specs.Listing.{tooLong, typeShown, takenRowOf, afterOf, lastOf, endingOf};
+ghost use Rattle.report.specs.Listing.{tooLong, typeShown, takenRowOf, afterOf, lastOf, endingOf};
 use answers::Answer;
 use columns::FrameType;
 use steps::Shown;

@@ -3,9 +3,9 @@
 use mathlib.Core.Path.{sym, _∙_}
 use borrow.Author.Needs.{needs}
 use borrow.Author.Tests.{not-true, not-false}
-use Rattle.rows.specs.Listing.{nextIn, afterOf}
-use Rattle.rows.proofs.taken.after.Statement.{statement}
-use Rattle.rows.proofs.taken.after.Tie as tie
+use Rattle.report.specs.Listing.{nextIn, afterOf}
+use Rattle.report.proofs.taken.after.Statement.{statement}
+use Rattle.report.proofs.taken.after.Tie as tie
 
 returns : tie.Need-returns
 unfolding afterOf

@@ -6,16 +6,16 @@ use denote.Ref.{now}
 use Rattle.answers.specs.Firm.{Firm, FirmAnswer}
 use Rattle.answers.proofs.Firm.{equation, outcome-equation}
 use Rattle.wire.specs.declared.Wrote.{Wrote}
-use Rattle.rows.proofs.taken.too_long.Kinds as too-long
-use Rattle.rows.proofs.taken.too_long.Reads as too-long-reads
-use Rattle.rows.proofs.taken.taken_row.Kinds as taken-row
-use Rattle.rows.proofs.taken.taken_row.Reads as taken-row-reads
-use Rattle.rows.proofs.taken.after.Kinds as after
-use Rattle.rows.proofs.taken.after.Reads as after-reads
-use Rattle.rows.proofs.taken.last.Kinds as last
-use Rattle.rows.proofs.taken.last.Reads as last-reads
-use Rattle.rows.proofs.taken.ending.Kinds as ending
-use Rattle.rows.proofs.taken.ending.Reads as ending-reads
+use Rattle.report.proofs.taken.too_long.Kinds as too-long
+use Rattle.report.proofs.taken.too_long.Reads as too-long-reads
+use Rattle.report.proofs.taken.taken_row.Kinds as taken-row
+use Rattle.report.proofs.taken.taken_row.Reads as taken-row-reads
+use Rattle.report.proofs.taken.after.Kinds as after
+use Rattle.report.proofs.taken.after.Reads as after-reads
+use Rattle.report.proofs.taken.last.Kinds as last
+use Rattle.report.proofs.taken.last.Reads as last-reads
+use Rattle.report.proofs.taken.ending.Kinds as ending
+use Rattle.report.proofs.taken.ending.Reads as ending-reads
 
 pub too-long-firm : FirmAnswer 0 too-long.ps too-long.r too-long-reads.Asked too-long-reads.Post
 too-long-firm = equation

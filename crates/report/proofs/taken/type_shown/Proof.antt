@@ -1,9 +1,9 @@
 -- `taken::type_shown` meets its contract: the match is the definition's.
 -- Assumes nothing.
 use borrow.Author.Needs.{needs}
-use Rattle.rows.specs.Listing.{typeShown}
-use Rattle.rows.proofs.taken.type_shown.Statement.{statement}
-use Rattle.rows.proofs.taken.type_shown.Tie as tie
+use Rattle.report.specs.Listing.{typeShown}
+use Rattle.report.proofs.taken.type_shown.Statement.{statement}
+use Rattle.report.proofs.taken.type_shown.Tie as tie
 
 returns : tie.Need-returns
 unfolding typeShown

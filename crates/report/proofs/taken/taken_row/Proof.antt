@@ -1,9 +1,9 @@
 -- `taken::taken_row` meets its contract: the row has the type shown, the answer's number and the total.
 -- Assumes nothing.
 use borrow.Author.Needs.{needs}
-use Rattle.rows.specs.Listing.{takenRowOf}
-use Rattle.rows.proofs.taken.taken_row.Statement.{statement}
-use Rattle.rows.proofs.taken.taken_row.Tie as tie
+use Rattle.report.specs.Listing.{takenRowOf}
+use Rattle.report.proofs.taken.taken_row.Statement.{statement}
+use Rattle.report.proofs.taken.taken_row.Tie as tie
 
 returns : tie.Need-returns
 unfolding takenRowOf

@@ -2,9 +2,9 @@
 -- Assumes nothing.
 use borrow.Author.Needs.{needs}
 use Rattle.columns.specs.Row.{closedText}
-use Rattle.rows.specs.Listing.{endingOf}
-use Rattle.rows.proofs.taken.ending.Statement.{statement}
-use Rattle.rows.proofs.taken.ending.Tie as tie
+use Rattle.report.specs.Listing.{endingOf}
+use Rattle.report.proofs.taken.ending.Statement.{statement}
+use Rattle.report.proofs.taken.ending.Tie as tie
 
 returns : tie.Need-returns
 unfolding endingOf

@@ -1,9 +1,9 @@
 -- `taken::last` meets its contract: the test is the definition's.
 -- Assumes nothing.
 use borrow.Author.Tests.{eq-eqb, ne-eqb}
-use Rattle.rows.specs.Listing.{lastOf}
-use Rattle.rows.proofs.taken.last.Statement.{statement}
-use Rattle.rows.proofs.taken.last.Tie as tie
+use Rattle.report.specs.Listing.{lastOf}
+use Rattle.report.proofs.taken.last.Statement.{statement}
+use Rattle.report.proofs.taken.last.Tie as tie
 
 returns : tie.Need-returns
 unfolding lastOf
