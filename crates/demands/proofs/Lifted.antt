@@ -55,7 +55,7 @@ use Rattle.steps.specs.declared.Decided.{Decided}
 use Rattle.steps.specs.Gate.{gateOf}
 use Rattle.steps.specs.Opening.{openingWhen, entriesOf}
 use Rattle.steps.specs.Step.{requestOf, requestAt, decidedOf}
-use Rattle.receive.specs.Table.{filledTo, openedTable}
+use Rattle.tables.specs.Table.{filledTo, openedTable}
 use Rattle.receive.specs.Walk.{decidedAt, steppedAt, stepTable, stepHeard, stopped, Walked, ahead, walkFrom, walkAll}
 use Rattle.receive.specs.Taking.{gateAt, tookFrameOf, frameTable, begunOf, tookOf, tookTable}
 use Rattle.receive.specs.Calling.{callPlace, calledAt, calledTable}

@@ -29,14 +29,14 @@ use Rattle.streams.specs.declared.Limits.{Limits}
 use Rattle.streams.proofs.Limits as TLimits
 use Rattle.streams.proofs.Limits.Laws as TLimits′
 use Rattle.steps.specs.Opening.{openingWhen}
-use Rattle.receive.specs.Table.{openedTable}
+use Rattle.tables.specs.Table.{openedTable}
 use Rattle.streams.specs.declared.Opened.{Opened}
 use Rattle.streams.proofs.Opened as TOpened
 use Rattle.streams.proofs.Opened.Laws as TOpened′
 use Rattle.streams.specs.declared.Entry.{Entry}
 use Rattle.streams.proofs.Entry as TEntry
-use Rattle.receive.proofs.Calls.{post-of}
-use Rattle.receive.proofs.Lent.{ref, vals}
+use Rattle.tables.proofs.Calls.{post-of}
+use Rattle.tables.proofs.Lent.{ref, vals}
 use Rattle.receive.proofs.open as g
 
 module _ {M : Type 1} (𝓤 : URA M) (H : Heap 𝓤) (A : Atoms 𝓤) (mem : Memory → SProp 𝓤) (run : Routine → Fun 𝓤) where

@@ -55,7 +55,13 @@ pub fn open(table: [Entry; Conn::ENTRIES], limits: Limits) -> OwnedOpened
     OwnedOpened { opened, table: t }
 }
 
-pub fn take_frame(c: Conn, table: [Entry; Conn::ENTRIES], s: &[u8], at: usize, kind: Kind) -> OwnedFrame
+pub fn take_frame(
+    c: Conn,
+    table: [Entry; Conn::ENTRIES],
+    s: &[u8],
+    at: usize,
+    kind: Kind,
+) -> OwnedFrame
     ensures { λ r. ⌜ r ≡ ownedFrameOf c table (now (s .entry)) at kind ⌝ }
 {
     let mut t = table;

@@ -34,8 +34,8 @@ use Rattle.packets.proofs.Records.Laws as TRecords′
 use Rattle.packets.specs.declared.Begun.{Begun}
 use Rattle.packets.proofs.Begun as TBegun
 use Rattle.packets.proofs.Begun.Laws as TBegun′
-use Rattle.receive.proofs.Calls.{post-of}
-use Rattle.receive.proofs.Lent.{ref, vals}
+use Rattle.tables.proofs.Calls.{post-of}
+use Rattle.tables.proofs.Lent.{ref, vals}
 use Rattle.packets.proofs.checks.begin as g
 
 module _ {M : Type 1} (𝓤 : URA M) (H : Heap 𝓤) (A : Atoms 𝓤) (mem : Memory → SProp 𝓤) (run : Routine → Fun 𝓤) where

@@ -33,7 +33,7 @@ use Rattle.packets.specs.Spaces.{recordOf, recordsFit}
 use Rattle.packets.specs.Begin.{refusedOf, closesOf, testedOf, withRecovered, inSpaceOf, withKind, beginOf}
 use Rattle.receive.specs.Walk.{Ready}
 use Rattle.receive.specs.Taking.{begunOf}
-use Rattle.receive.proofs.Tables.{fits-long}
+use Rattle.receive.proofs.Long.{fits-long}
 
 module _ (c : Conn) (rs : Records) (ok : Bool) (byte : ℕ) (s : List ℕ) where
   abbrev Kept : Begun → Type 0

@@ -23,8 +23,8 @@ use denote.Triple.Spec.{tripleOf}
 use denote.Triple.Clauses.{lasts, Lasts}
 use denote.Triple.Statement.{Contract}
 use Rattle.steps.specs.Past.{pastPadding}
-use Rattle.receive.proofs.Calls.{post-of}
-use Rattle.receive.proofs.Lent.{ref, vals}
+use Rattle.tables.proofs.Calls.{post-of}
+use Rattle.tables.proofs.Lent.{ref, vals}
 use Rattle.steps.proofs.frame.past_padding as g
 
 module _ {M : Type 1} (𝓤 : URA M) (H : Heap 𝓤) (A : Atoms 𝓤) (mem : Memory → SProp 𝓤) (run : Routine → Fun 𝓤) where

@@ -31,8 +31,8 @@ use Rattle.frames.proofs.Kind.Laws as TKind′
 use Rattle.steps.specs.declared.Request.{Request}
 use Rattle.steps.proofs.Request as TRequest
 use Rattle.steps.proofs.Request.Laws as TRequest′
-use Rattle.receive.proofs.Calls.{post-of}
-use Rattle.receive.proofs.Lent.{ref, vals}
+use Rattle.tables.proofs.Calls.{post-of}
+use Rattle.tables.proofs.Lent.{ref, vals}
 use Rattle.steps.proofs.frame.request as g
 
 module _ {M : Type 1} (𝓤 : URA M) (H : Heap 𝓤) (A : Atoms 𝓤) (mem : Memory → SProp 𝓤) (run : Routine → Fun 𝓤) where

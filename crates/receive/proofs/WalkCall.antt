@@ -38,8 +38,8 @@ use Rattle.packets.proofs.Stopped as TStopped
 use Rattle.packets.proofs.Stopped.Laws as TStopped′
 use Rattle.streams.specs.declared.Entry.{Entry}
 use Rattle.streams.proofs.Entry as TEntry
-use Rattle.receive.proofs.Calls.{post-of}
-use Rattle.receive.proofs.Lent.{ref, vals}
+use Rattle.tables.proofs.Calls.{post-of}
+use Rattle.tables.proofs.Lent.{ref, vals}
 use Rattle.receive.proofs.step.walk as g
 
 module _ {M : Type 1} (𝓤 : URA M) (H : Heap 𝓤) (A : Atoms 𝓤) (mem : Memory → SProp 𝓤) (run : Routine → Fun 𝓤) where

@@ -1,4 +1,3 @@
-pub mod Table
 pub mod Walk
 pub mod Taking
 pub mod Calling

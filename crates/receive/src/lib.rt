@@ -1,13 +1,12 @@
 // The host's interface (document 01, "Taking a packet", "Streams and credit"): the stream table is lent at each call, and
 // nothing of it is copied but the one entry at hand. 120 comes before all else, in one pass over the table.
 mod step;
-mod whole;
 
 ghost use mathlib.Core.Path.{_≡_};
 ghost use lib.ListN.{length};
 ghost use Rattle.streams.specs.Conn.{handedOutOf};
 ghost use Rattle.steps.specs.Opening.{openingWhen};
-ghost use Rattle.receive.specs.Table.{openedTable};
+ghost use Rattle.tables.specs.Table.{openedTable};
 ghost use Rattle.receive.specs.Taking.{tookFrameOf, frameTable, tookOf, tookTable};
 ghost use Rattle.receive.specs.Calling.{calledAt, calledTable};
 use answers::Answer;
@@ -28,17 +27,14 @@ use streams::Space;
 pub fn open(t: &mut [Entry], limits: Limits) -> Opened
     ensures { λ r. ⌜ (r ≡ openingWhen (length (now (t .entry))) limits) × (now (t .exit) ≡ openedTable (now (t .entry)) limits) ⌝ }
 {
-    let o = steps::opening::open(t.len(), limits);
-    let n = steps::opening::entries(o.answer);
-    whole::fill(t, n, limits);
-    o
+    tables::open(t, limits)
 }
 
 // Takes the frame at a place of the payload of a packet of this kind.
 pub fn take_frame(c: Conn, t: &mut [Entry], s: &[u8], at: usize, kind: Kind) -> TookFrame
     ensures { λ r. ⌜ (r ≡ tookFrameOf c (now (t .entry)) (now (s .entry)) at kind) × (now (t .exit) ≡ frameTable c (now (t .entry)) (now (s .entry)) at kind) ⌝ }
 {
-    let g = steps::gates::gate(whole::fits(c, t), c.mark);
+    let g = steps::gates::gate(tables::fits(c, t), c.mark);
     if !g.passes {
         return TookFrame {
             answer: g.answer,
@@ -59,7 +55,7 @@ pub fn take_frame(c: Conn, t: &mut [Entry], s: &[u8], at: usize, kind: Kind) -> 
 pub fn take_packet(c: Conn, records: Records, t: &mut [Entry], first: u8, s: &[u8]) -> Took
     ensures { λ r. ⌜ (r ≡ tookOf c records (now (t .entry)) first (now (s .entry))) × (now (t .exit) ≡ tookTable c records (now (t .entry)) first (now (s .entry))) ⌝ }
 {
-    let begun = packets::checks::begin(c, records, whole::fits(c, t), first, s);
+    let begun = packets::checks::begin(c, records, tables::fits(c, t), first, s);
     let stopped = step::walk(begun.conn, t, s, begun.at, begun.kind);
     packets::checks::finish(begun, stopped, records)
 }
@@ -68,7 +64,7 @@ pub fn take_packet(c: Conn, records: Records, t: &mut [Entry], first: u8, s: &[u
 pub fn call(c: Conn, t: &mut [Entry], call: Call) -> Called
     ensures { λ r. ⌜ (r ≡ calledAt c (now (t .entry)) call) × (now (t .exit) ≡ calledTable c (now (t .entry)) call) ⌝ }
 {
-    if !whole::fits(c, t) {
+    if !tables::fits(c, t) {
         return Called {
             answer: Answer::DoesNotFit,
             number: 0,

@@ -50,7 +50,12 @@ pub fn open(
 }
 
 // The answer of a call that changes the connection alone.
-fn called(d: Called, records: Records, table: [Entry; Conn::ENTRIES], out: &mut [u8; 16384]) -> Ran {
+fn called(
+    d: Called,
+    records: Records,
+    table: [Entry; Conn::ENTRIES],
+    out: &mut [u8; 16384],
+) -> Ran {
     let answer = d.answer;
     let o = say::number(out, 0, answer.number());
     let conn = d.conn;
@@ -58,7 +63,12 @@ fn called(d: Called, records: Records, table: [Entry; Conn::ENTRIES], out: &mut 
 }
 
 // The same of a call that hands out a number: there is none on refusal.
-fn numbered(d: Called, records: Records, table: [Entry; Conn::ENTRIES], out: &mut [u8; 16384]) -> Ran {
+fn numbered(
+    d: Called,
+    records: Records,
+    table: [Entry; Conn::ENTRIES],
+    out: &mut [u8; 16384],
+) -> Ran {
     let answer = d.answer;
     let a = answer.number();
     let o = say::number(out, 0, a);
@@ -134,7 +144,13 @@ fn frame(
 }
 
 // A local call: one that opens a stream answers its ID as well.
-fn make(c: Conn, records: Records, table: [Entry; Conn::ENTRIES], call: Call, out: &mut [u8; 16384]) -> Ran {
+fn make(
+    c: Conn,
+    records: Records,
+    table: [Entry; Conn::ENTRIES],
+    call: Call,
+    out: &mut [u8; 16384],
+) -> Ran {
     let h = owned::call(c, table, call);
     let d = h.called;
     let rows = h.table;

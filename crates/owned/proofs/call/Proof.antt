@@ -40,10 +40,10 @@ use denote.Triple.Statement.{Triple}
 use denote.Triple.Table.{entered, cited}
 use denote.Triple.Walked.{says, Stays, stay-none, walkOf, goes-none, Walks, ends-at, walked, walk-meets}
 use denote.Exit.{yes}
-use Rattle.receive.proofs.Leave.{stand, leaves}
+use Rattle.tables.proofs.Leave.{stand, leaves}
 use Rattle.receive.specs.Calling.{calledAt, calledTable}
 use Rattle.owned.specs.Owned.{ownedCallOf}
-use Rattle.receive.proofs.Lent.{calls-lent-mut}
+use Rattle.tables.proofs.Lent.{calls-lent-mut}
 use Rattle.streams.specs.declared.Conn.{Conn}
 use Rattle.streams.proofs.Conn as TConn
 use Rattle.streams.proofs.Conn.Laws as TConn′

@@ -42,11 +42,11 @@ use denote.Triple.Statement.{Triple}
 use denote.Triple.Table.{entered, cited}
 use denote.Triple.Walked.{says, Stays, stay-none, walkOf, goes-none, Walks, ends-at, walked, walk-meets}
 use denote.Exit.{yes}
-use Rattle.receive.proofs.Leave.{stand, leaves}
+use Rattle.tables.proofs.Leave.{stand, leaves}
 use Rattle.steps.specs.Opening.{openingWhen}
-use Rattle.receive.specs.Table.{openedTable}
+use Rattle.tables.specs.Table.{openedTable}
 use Rattle.owned.specs.Owned.{ownedOpenedOf}
-use Rattle.receive.proofs.Lent.{calls-lent-mut}
+use Rattle.tables.proofs.Lent.{calls-lent-mut}
 use Rattle.owned.specs.declared.OwnedOpened.{OwnedOpened}
 use Rattle.owned.proofs.OwnedOpened as TOwnedOpened
 use Rattle.owned.proofs.OwnedOpened.Laws as TOwnedOpened′

@@ -40,10 +40,10 @@ use denote.Triple.Statement.{Triple}
 use denote.Triple.Table.{entered, cited}
 use denote.Triple.Walked.{says, Stays, stay-none-slice, stay-none, walkOf, goes-none-slice, goes-none, Walks, ends-at, walked, walk-meets}
 use denote.Exit.{yes}
-use Rattle.receive.proofs.Leave.{leaves}
+use Rattle.tables.proofs.Leave.{leaves}
 use Rattle.receive.specs.Taking.{tookOf, tookTable}
 use Rattle.owned.specs.Owned.{ownedPacketOf}
-use Rattle.receive.proofs.Lent.{calls-lent-with}
+use Rattle.tables.proofs.Lent.{calls-lent-with}
 use Rattle.streams.specs.declared.Conn.{Conn}
 use Rattle.streams.proofs.Conn as TConn
 use Rattle.streams.proofs.Conn.Laws as TConn′

@@ -50,12 +50,12 @@ use Rattle.streams.specs.Entry.{fresh, entryAt}
 use Rattle.limits.specs.Fits as whole
 use Rattle.calls.specs.Calls.{streamIn, repliedOf}
 use Rattle.receive.specs.Calling.{callPlace, repliedAt, calledAt, calledTable}
-use Rattle.receive.proofs.Leave.{stand, leaves}
-use Rattle.receive.proofs.Plain.{calls-fn}
-use Rattle.receive.proofs.Cases.{fails, not-not}
-use Rattle.receive.proofs.Lent.{calls-lent-shr}
+use Rattle.tables.proofs.Leave.{stand, leaves}
+use Rattle.tables.proofs.Plain.{calls-fn}
+use Rattle.tables.proofs.Cases.{fails, not-not}
+use Rattle.tables.proofs.Lent.{calls-lent-shr}
 use Rattle.receive.proofs.Steps.{place-within}
-use Rattle.receive.proofs.Tables.{fits-long}
+use Rattle.receive.proofs.Long.{fits-long}
 use Rattle.streams.specs.declared.Conn.{Conn}
 use Rattle.streams.proofs.Conn as TConn
 use Rattle.streams.proofs.Conn.Laws as TConn′
@@ -81,9 +81,9 @@ use Rattle.receive.proofs.call as f
 use Rattle.receive.proofs.call.Statement as stated
 use Rattle.receive.proofs.call.Code as code
 use Rattle.receive.proofs.call.Code.Mir as mir
-use Rattle.receive.proofs.whole.fits.Symbol as fits-def
-use Rattle.receive.proofs.whole.fits.Symbol.{name as #fits}
-use Rattle.receive.proofs.whole.fits.Met as fits-thm
+use Rattle.tables.proofs.fits.Symbol as fits-def
+use Rattle.tables.proofs.fits.Symbol.{name as #fits}
+use Rattle.tables.proofs.fits.Met as fits-thm
 use Rattle.calls.proofs.place.Symbol as place-def
 use Rattle.calls.proofs.place.Symbol.{name as #place}
 use Rattle.calls.proofs.place.Met as place-thm
@@ -248,6 +248,6 @@ call-spec 𝓤 H 𝓜 𝓖 𝓡 =
     entered 𝓤 H (tripleOf 𝓤 H (𝓖 .A) f.signature (f.spec 𝓤 H (𝓖 .A) (𝓜 .mem) (𝓡 .run)))
     (tables 𝓤 H 𝓜 𝓡 code.env .C) (tables 𝓤 H 𝓜 𝓡 code.env .Λ) #f code.function (code.unfolded 𝓤 H 𝓜 𝓡)
     (f-meets 𝓤 H (𝓖 .A) (givenOf 𝓤 H 𝓜 𝓖) (𝓜 .mem) (𝓡 .run) (tablesOf 𝓤 H 𝓜 (tables 𝓤 H 𝓜 𝓡 code.env))
-    (cited 𝓤 H (Whole 𝓤 H (𝓖 .A) (𝓜 .mem) (𝓡 .run)) 𝓜 𝓡 code.env #fits fits-def.routine code.calls-receive·whole·fits (fits-thm.met 𝓤 H 𝓜 𝓖 𝓡))
+    (cited 𝓤 H (Whole 𝓤 H (𝓖 .A) (𝓜 .mem) (𝓡 .run)) 𝓜 𝓡 code.env #fits fits-def.routine code.calls-tables·fits (fits-thm.met 𝓤 H 𝓜 𝓖 𝓡))
     (cited 𝓤 H (Place 𝓤 H (𝓖 .A) (𝓜 .mem) (𝓡 .run)) 𝓜 𝓡 code.env #place place-def.routine code.calls-calls·place (place-thm.met 𝓤 H 𝓜 𝓖 𝓡))
     (cited 𝓤 H (Judge 𝓤 H (𝓖 .A) (𝓜 .mem) (𝓡 .run)) 𝓜 𝓡 code.env #judge judge-def.routine code.calls-calls·judge (judge-thm.met 𝓤 H 𝓜 𝓖 𝓡)))

@@ -1,6 +1,6 @@
 -- `receive::take_packet` meets its contract: the checks, the walk and the record of the number are those of the definition; a packet that is refused before its frames has none to walk.
 -- Assumes nothing.
-use Rattle.receive.proofs.Plain.{calls-fn}
+use Rattle.tables.proofs.Plain.{calls-fn}
 use mathlib.Core.Path.{_≡_, refl, sym, ap, subst}
 use Prim.Native.Nat.{ℕ, _-_, _<_, _^_}
 use mathlib.Core.Bool.{Bool}
@@ -44,11 +44,11 @@ use denote.Exit.{yes}
 use Rattle.limits.specs.Fits as whole
 use Rattle.packets.specs.Begin.{beginOf}
 use Rattle.packets.specs.Finish.{finishOf}
-use Rattle.receive.proofs.Leave.{leaves}
+use Rattle.tables.proofs.Leave.{leaves}
 use Rattle.receive.specs.Walk.{stoppedOf, walkTable}
 use Rattle.receive.specs.Taking.{tookOf, tookTable}
-use Rattle.receive.proofs.Calls.{calls-given}
-use Rattle.receive.proofs.Lent.{calls-lent-shr, calls-lent-with, vals}
+use Rattle.tables.proofs.Calls.{calls-given}
+use Rattle.tables.proofs.Lent.{calls-lent-shr, calls-lent-with, vals}
 use Rattle.receive.proofs.Begins.{begins-ready}
 use Rattle.streams.specs.declared.Conn.{Conn}
 use Rattle.streams.proofs.Conn as TConn
@@ -75,9 +75,9 @@ use Rattle.receive.proofs.take_packet as f
 use Rattle.receive.proofs.take_packet.Statement as stated
 use Rattle.receive.proofs.take_packet.Code as code
 use Rattle.receive.proofs.take_packet.Code.Mir as mir
-use Rattle.receive.proofs.whole.fits.Symbol as fits-def
-use Rattle.receive.proofs.whole.fits.Symbol.{name as #fits}
-use Rattle.receive.proofs.whole.fits.Met as fits-thm
+use Rattle.tables.proofs.fits.Symbol as fits-def
+use Rattle.tables.proofs.fits.Symbol.{name as #fits}
+use Rattle.tables.proofs.fits.Met as fits-thm
 use Rattle.packets.proofs.checks.begin.Symbol as begin-def
 use Rattle.packets.proofs.checks.begin.Symbol.{name as #begin}
 use Rattle.packets.proofs.checks.begin.Met as begin-thm
@@ -209,7 +209,7 @@ take-packet-spec 𝓤 H 𝓜 𝓖 𝓡 =
     entered 𝓤 H (tripleOf 𝓤 H (𝓖 .A) f.signature (f.spec 𝓤 H (𝓖 .A) (𝓜 .mem) (𝓡 .run)))
     (tables 𝓤 H 𝓜 𝓡 code.env .C) (tables 𝓤 H 𝓜 𝓡 code.env .Λ) #f code.function (code.unfolded 𝓤 H 𝓜 𝓡)
     (f-meets 𝓤 H (𝓖 .A) (givenOf 𝓤 H 𝓜 𝓖) (𝓜 .mem) (𝓡 .run) (tablesOf 𝓤 H 𝓜 (tables 𝓤 H 𝓜 𝓡 code.env))
-    (cited 𝓤 H (Whole 𝓤 H (𝓖 .A) (𝓜 .mem) (𝓡 .run)) 𝓜 𝓡 code.env #fits fits-def.routine code.calls-receive·whole·fits (fits-thm.met 𝓤 H 𝓜 𝓖 𝓡))
+    (cited 𝓤 H (Whole 𝓤 H (𝓖 .A) (𝓜 .mem) (𝓡 .run)) 𝓜 𝓡 code.env #fits fits-def.routine code.calls-tables·fits (fits-thm.met 𝓤 H 𝓜 𝓖 𝓡))
     (cited 𝓤 H (Begin 𝓤 H (𝓖 .A) (𝓜 .mem) (𝓡 .run)) 𝓜 𝓡 code.env #begin begin-def.routine code.calls-packets·checks·begin (begin-thm.met 𝓤 H 𝓜 𝓖 𝓡))
     (cited 𝓤 H (Walk 𝓤 H (𝓖 .A) (𝓜 .mem) (𝓡 .run)) 𝓜 𝓡 code.env #walk walk-def.routine code.calls-receive·step·walk (walk-thm.met 𝓤 H 𝓜 𝓖 𝓡))
     (cited 𝓤 H (Finish 𝓤 H (𝓖 .A) (𝓜 .mem) (𝓡 .run)) 𝓜 𝓡 code.env #finish finish-def.routine code.calls-packets·checks·finish (finish-thm.met 𝓤 H 𝓜 𝓖 𝓡)))

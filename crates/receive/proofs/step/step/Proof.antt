@@ -1,6 +1,6 @@
 -- `receive::step::step` meets its contract: what the frame asks names the place of its entry, which is taken out, judged and put back.
 -- Assumes nothing.
-use Rattle.receive.proofs.Plain.{calls-fn}
+use Rattle.tables.proofs.Plain.{calls-fn}
 use mathlib.Core.Path.{_≡_, refl, sym, ap, subst}
 use Prim.Native.Nat.{ℕ, _-_, _*_, _<_, _^_}
 use native.Mathlib.Omega.{arith}
@@ -44,9 +44,9 @@ use denote.Triple.Walked.{says, needs, Stays, stay-slice, stay-none-slice, stay-
 use denote.Exit.{yes}
 use Rattle.streams.specs.Entry.{fresh, entryAt}
 use Rattle.steps.specs.Step.{requestAt, decidedOf}
-use Rattle.receive.proofs.Leave.{leaves}
+use Rattle.tables.proofs.Leave.{leaves}
 use Rattle.receive.specs.Walk.{decidedAt, steppedAt, stepTable}
-use Rattle.receive.proofs.Calls.{calls-given}
+use Rattle.tables.proofs.Calls.{calls-given}
 use Rattle.receive.proofs.Steps.{place-low}
 use Rattle.streams.specs.declared.Conn.{Conn}
 use Rattle.streams.proofs.Conn as TConn
@@ -78,7 +78,7 @@ use Rattle.steps.proofs.frame.request.Met as request-thm
 use Rattle.steps.proofs.frame.decide.Symbol as decide-def
 use Rattle.steps.proofs.frame.decide.Symbol.{name as #decide}
 use Rattle.steps.proofs.frame.decide.Met as decide-thm
-use Rattle.receive.proofs.Lent.{vals}
+use Rattle.tables.proofs.Lent.{vals}
 use Rattle.steps.proofs.frame.decide as decide-fn
 
 abbrev stayed : Stays (f.ended .signature .params) (f.ended .kept)

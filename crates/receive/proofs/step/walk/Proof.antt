@@ -51,11 +51,11 @@ use lib.Dec.{leb, nleb→lt}
 use Rattle.answers.specs.declared.Answer.the-variants.{Accepted}
 use Rattle.streams.specs.Conn.{isOpen}
 use Rattle.steps.specs.Past.{pastPadding}
-use Rattle.receive.proofs.Leave.{leaves}
+use Rattle.tables.proofs.Leave.{leaves}
 use Rattle.receive.specs.Walk.{steppedAt, stepTable, stopped, walkFrom, walkAll, Ready, stoppedOf, walkTable}
-use Rattle.receive.proofs.Calls.{calls-given}
-use Rattle.receive.proofs.Cases.{holds, fails, not-not, splits}
-use Rattle.receive.proofs.Lent.{calls-lent-with}
+use Rattle.tables.proofs.Calls.{calls-given}
+use Rattle.tables.proofs.Cases.{holds, fails, not-not, splits}
+use Rattle.tables.proofs.Lent.{calls-lent-with}
 use Rattle.receive.proofs.Padding.{bare, reached, Further}
 use Rattle.receive.proofs.Padding as padding
 use Rattle.receive.proofs.Steps.{steps-on, still-open}

@@ -1,6 +1,6 @@
--- `receive::whole::part` meets its contract: the loop holds the check of the opened entries so far, and the rest of the type is checked together. The table is looked into once, before the loop, and shut after it.
+-- `tables::part` meets its contract: the loop holds the check of the opened entries so far, and the rest of the type is checked together. The table is looked into once, before the loop, and shut after it.
 -- Assumes nothing.
-use Rattle.receive.proofs.Plain.{calls-fn}
+use Rattle.tables.proofs.Plain.{calls-fn}
 use mathlib.Core.Path.{_≡_, refl, sym}
 use Prim.Native.Nat.{ℕ, _+_, _-_, _*_, _≤_, _<_, _^_}
 use native.Mathlib.Omega.{arith}
@@ -54,36 +54,36 @@ use denote.Memory.{shares}
 use Rattle.streams.specs.Entry.{fresh, entryAt}
 use Rattle.limits.specs.Fits.{summedOf}
 use Rattle.limits.specs.Rest.{openedIn, restOf}
-use Rattle.receive.proofs.Leave.{leaves}
-use Rattle.receive.specs.Table.{summedTo, untouchedTo}
-use Rattle.receive.proofs.Rest.{opened-within, by-rest}
-use Rattle.receive.proofs.Calls.{calls-given}
-use Rattle.receive.proofs.Cases.{cases, is-true, is-false}
+use Rattle.tables.proofs.Leave.{leaves}
+use Rattle.tables.specs.Table.{summedTo, untouchedTo}
+use Rattle.tables.proofs.Unopened.{opened-within, by-rest}
+use Rattle.tables.proofs.Calls.{calls-given}
+use Rattle.tables.proofs.Cases.{cases, is-true, is-false}
 use Rattle.limits.specs.declared.fits.Summed.{Summed}
 use Rattle.limits.proofs.fits.Summed as TSummed
 use Rattle.limits.proofs.fits.Summed.Laws as TSummed′
 use Rattle.streams.specs.declared.Entry.{Entry}
 use Rattle.streams.proofs.Entry as TEntry
 use Rattle.streams.proofs.Entry.Laws as TEntry′
-use Rattle.receive.proofs.RestCall.{Rest, Took-rest, to-rest, Did-rest, goes-rest, gave-rest}
-use Rattle.receive.proofs.whole.part.Key.{name as #f}
-use Rattle.receive.proofs.whole.part as f
-use Rattle.receive.proofs.whole.part.Statement as stated
-use Rattle.receive.proofs.whole.part.Code as code
-use Rattle.receive.proofs.whole.part.Code.Mir as mir
+use Rattle.tables.proofs.RestCall.{Rest, Took-rest, to-rest, Did-rest, goes-rest, gave-rest}
+use Rattle.tables.proofs.part.Key.{name as #f}
+use Rattle.tables.proofs.part as f
+use Rattle.tables.proofs.part.Statement as stated
+use Rattle.tables.proofs.part.Code as code
+use Rattle.tables.proofs.part.Code.Mir as mir
 use Rattle.limits.proofs.rest.opened_in.Symbol as opened-def
 use Rattle.limits.proofs.rest.opened_in.Symbol.{name as #opened}
 use Rattle.limits.proofs.rest.opened_in.Met as opened-thm
 use Rattle.limits.proofs.fits.one_more.Symbol as one-def
 use Rattle.limits.proofs.fits.one_more.Symbol.{name as #one}
 use Rattle.limits.proofs.fits.one_more.Met as one-thm
-use Rattle.receive.proofs.whole.rest.Symbol as rest-def
-use Rattle.receive.proofs.whole.rest.Symbol.{name as #rest}
-use Rattle.receive.proofs.whole.rest.Met as rest-thm
+use Rattle.tables.proofs.rest.Symbol as rest-def
+use Rattle.tables.proofs.rest.Symbol.{name as #rest}
+use Rattle.tables.proofs.rest.Met as rest-thm
 use Rattle.limits.proofs.rest.with_rest.Symbol as all-def
 use Rattle.limits.proofs.rest.with_rest.Symbol.{name as #all}
 use Rattle.limits.proofs.rest.with_rest.Met as all-thm
-use Rattle.receive.proofs.Lent.{vals}
+use Rattle.tables.proofs.Lent.{vals}
 use Rattle.limits.proofs.fits.one_more as one-fn
 use Rattle.limits.proofs.rest.opened_in as opened-fn
 use Rattle.limits.proofs.rest.with_rest as all-fn
@@ -298,5 +298,5 @@ part-spec 𝓤 H 𝓜 𝓖 𝓡 =
     (f-meets 𝓤 H (𝓖 .A) (givenOf 𝓤 H 𝓜 𝓖) (𝓜 .mem) (𝓡 .run) (tablesOf 𝓤 H 𝓜 (tables 𝓤 H 𝓜 𝓡 code.env))
     (cited 𝓤 H (OpenedIn 𝓤 H (𝓖 .A) (𝓜 .mem) (𝓡 .run)) 𝓜 𝓡 code.env #opened opened-def.routine code.calls-limits·rest·opened-in (opened-thm.met 𝓤 H 𝓜 𝓖 𝓡))
     (cited 𝓤 H (OneMore 𝓤 H (𝓖 .A) (𝓜 .mem) (𝓡 .run)) 𝓜 𝓡 code.env #one one-def.routine code.calls-limits·fits·one-more (one-thm.met 𝓤 H 𝓜 𝓖 𝓡))
-    (cited 𝓤 H (Rest 𝓤 H (𝓖 .A) (𝓜 .mem) (𝓡 .run)) 𝓜 𝓡 code.env #rest rest-def.routine code.calls-receive·whole·rest (rest-thm.met 𝓤 H 𝓜 𝓖 𝓡))
+    (cited 𝓤 H (Rest 𝓤 H (𝓖 .A) (𝓜 .mem) (𝓡 .run)) 𝓜 𝓡 code.env #rest rest-def.routine code.calls-tables·rest (rest-thm.met 𝓤 H 𝓜 𝓖 𝓡))
     (cited 𝓤 H (WithRest 𝓤 H (𝓖 .A) (𝓜 .mem) (𝓡 .run)) 𝓜 𝓡 code.env #all all-def.routine code.calls-limits·rest·with-rest (all-thm.met 𝓤 H 𝓜 𝓖 𝓡)))

@@ -1,4 +1,4 @@
--- A call of `receive::whole::rest` as one step of a walk: what its contract asks, and what it gives.
+-- A call of `tables::rest` as one step of a walk: what its contract asks, and what it gives.
 -- Assumes `Given`.
 use mathlib.Core.Path.{_≡_, refl}
 use Prim.Native.Nat.{ℕ, _<_, _≤_, _+_, _^_}
@@ -26,12 +26,12 @@ use denote.Triple.Clauses.{lasts, Lasts}
 use denote.Triple.Statement.{Contract}
 use denote.Triple.Walked.{says}
 use Prim.Native.Nat.{_-_}
-use Rattle.receive.specs.Table.{untouchedTo}
+use Rattle.tables.specs.Table.{untouchedTo}
 use Rattle.streams.specs.declared.Entry.{Entry}
 use Rattle.streams.proofs.Entry as TEntry
-use Rattle.receive.proofs.Calls.{post-of}
-use Rattle.receive.proofs.Lent.{ref, vals}
-use Rattle.receive.proofs.whole.rest as g
+use Rattle.tables.proofs.Calls.{post-of}
+use Rattle.tables.proofs.Lent.{ref, vals}
+use Rattle.tables.proofs.rest as g
 
 module _ {M : Type 1} (𝓤 : URA M) (H : Heap 𝓤) (A : Atoms 𝓤) (mem : Memory → SProp 𝓤) (run : Routine → Fun 𝓤) where
   abbrev pub Rest : Contract 𝓤

@@ -22,7 +22,7 @@ use denote.Triple.Entry.{alive}
 use denote.Triple.Clauses.{Ended, Clauses, AtExit, atExit, lasts, closing}
 use denote.Triple.Spec.{tripleOf}
 use denote.Triple.Statement.{Triple}
-use Rattle.receive.proofs.Calls.{plain-post, calls-plain}
+use Rattle.tables.proofs.Calls.{plain-post, calls-plain}
 
 module _ {M : Type 1} (𝓤 : URA M) (H : Heap 𝓤) (A : Atoms 𝓤) where
   -- each parameter is owned for nothing

@@ -1,4 +1,4 @@
--- A call of `receive::whole::fill` as one step of a walk: what its contract asks, and what it gives.
+-- A call of `tables::fill` as one step of a walk: what its contract asks, and what it gives.
 -- Assumes `Given`.
 use mathlib.Core.Path.{_≡_, refl}
 use Prim.Native.Nat.{ℕ, _<_, _≤_, _^_}
@@ -29,12 +29,12 @@ use denote.Triple.Walked.{says}
 use Rattle.streams.specs.declared.Limits.{Limits}
 use Rattle.streams.proofs.Limits as TLimits
 use Rattle.streams.proofs.Limits.Laws as TLimits′
-use Rattle.receive.specs.Table.{filledTo}
+use Rattle.tables.specs.Table.{filledTo}
 use Rattle.streams.specs.declared.Entry.{Entry}
 use Rattle.streams.proofs.Entry as TEntry
-use Rattle.receive.proofs.Calls.{post-of}
-use Rattle.receive.proofs.Lent.{ref, vals}
-use Rattle.receive.proofs.whole.fill as g
+use Rattle.tables.proofs.Calls.{post-of}
+use Rattle.tables.proofs.Lent.{ref, vals}
+use Rattle.tables.proofs.fill as g
 
 module _ {M : Type 1} (𝓤 : URA M) (H : Heap 𝓤) (A : Atoms 𝓤) (mem : Memory → SProp 𝓤) (run : Routine → Fun 𝓤) where
   abbrev pub Fill : Contract 𝓤

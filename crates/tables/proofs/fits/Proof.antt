@@ -1,4 +1,4 @@
--- `receive::whole::fits` meets its contract: the three types are checked one after the other, and that is the definition.
+-- `tables::fits` meets its contract: the three types are checked one after the other, and that is the definition.
 -- Assumes nothing.
 use mathlib.Core.Path.{_≡_, refl}
 use Prim.Native.Nat.{ℕ, _+_, _-_, _≤_, _<_}
@@ -45,10 +45,10 @@ use lib.Dec.{eqb}
 use borrow.Author.Tests.{eqb-true}
 use Rattle.limits.specs.declared.fits.Summed.the-variants.{To}
 use Rattle.limits.specs.Fits.{fits, concludedOf, partOf}
-use Rattle.receive.proofs.Leave.{stand, leaves}
-use Rattle.receive.proofs.Calls.{calls-given}
-use Rattle.receive.proofs.Cases.{fails, not-not}
-use Rattle.receive.proofs.Tables.{first as first₀, second as second₀, third as third₀, whole-fits, short-unfit}
+use Rattle.tables.proofs.Leave.{stand, leaves}
+use Rattle.tables.proofs.Calls.{calls-given}
+use Rattle.tables.proofs.Cases.{fails, not-not}
+use Rattle.tables.proofs.Tables.{first as first₀, second as second₀, third as third₀, whole-fits, short-unfit}
 use Rattle.streams.specs.declared.Conn.{Conn}
 use Rattle.streams.proofs.Conn as TConn
 use Rattle.streams.proofs.Conn.Laws as TConn′
@@ -57,15 +57,15 @@ use Rattle.limits.proofs.fits.Summed as TSummed
 use Rattle.limits.proofs.fits.Summed.Laws as TSummed′
 use Rattle.streams.specs.declared.Entry.{Entry}
 use Rattle.streams.proofs.Entry as TEntry
-use Rattle.receive.proofs.PartCall.{Part, Took-part, to-part, Did-part, goes-part, gave-part}
-use Rattle.receive.proofs.whole.fits.Key.{name as #f}
-use Rattle.receive.proofs.whole.fits as f
-use Rattle.receive.proofs.whole.fits.Statement as stated
-use Rattle.receive.proofs.whole.fits.Code as code
-use Rattle.receive.proofs.whole.fits.Code.Mir as mir
-use Rattle.receive.proofs.whole.part.Symbol as part-def
-use Rattle.receive.proofs.whole.part.Symbol.{name as #part}
-use Rattle.receive.proofs.whole.part.Met as part-thm
+use Rattle.tables.proofs.PartCall.{Part, Took-part, to-part, Did-part, goes-part, gave-part}
+use Rattle.tables.proofs.fits.Key.{name as #f}
+use Rattle.tables.proofs.fits as f
+use Rattle.tables.proofs.fits.Statement as stated
+use Rattle.tables.proofs.fits.Code as code
+use Rattle.tables.proofs.fits.Code.Mir as mir
+use Rattle.tables.proofs.part.Symbol as part-def
+use Rattle.tables.proofs.part.Symbol.{name as #part}
+use Rattle.tables.proofs.part.Met as part-thm
 use Rattle.limits.proofs.fits.conclude.Symbol as conclude-def
 use Rattle.limits.proofs.fits.conclude.Symbol.{name as #conclude}
 use Rattle.limits.proofs.fits.conclude.Met as conclude-thm
@@ -75,7 +75,7 @@ use Rattle.limits.proofs.fits.part_of as part-of-fn
 use Rattle.limits.proofs.fits.part_of.Symbol as part-of-def
 use Rattle.limits.proofs.fits.part_of.Symbol.{name as #part-of}
 use Rattle.limits.proofs.fits.part_of.Met as part-of-thm
-use Rattle.receive.proofs.Plain.{calls-fn}
+use Rattle.tables.proofs.Plain.{calls-fn}
 use Rattle.limits.proofs.fits.conclude as conclude-fn
 
 abbrev stayed : Stays (f.ended .signature .params) (f.ended .kept)
@@ -220,5 +220,5 @@ fits-spec 𝓤 H 𝓜 𝓖 𝓡 =
     (tables 𝓤 H 𝓜 𝓡 code.env .C) (tables 𝓤 H 𝓜 𝓡 code.env .Λ) #f code.function (code.unfolded 𝓤 H 𝓜 𝓡)
     (f-meets 𝓤 H (𝓖 .A) (givenOf 𝓤 H 𝓜 𝓖) (𝓜 .mem) (𝓡 .run) (tablesOf 𝓤 H 𝓜 (tables 𝓤 H 𝓜 𝓡 code.env))
     (cited 𝓤 H (PartOf 𝓤 H (𝓖 .A) (𝓜 .mem) (𝓡 .run)) 𝓜 𝓡 code.env #part-of part-of-def.routine code.calls-limits·fits·part-of (part-of-thm.met 𝓤 H 𝓜 𝓖 𝓡))
-    (cited 𝓤 H (Part 𝓤 H (𝓖 .A) (𝓜 .mem) (𝓡 .run)) 𝓜 𝓡 code.env #part part-def.routine code.calls-receive·whole·part (part-thm.met 𝓤 H 𝓜 𝓖 𝓡))
+    (cited 𝓤 H (Part 𝓤 H (𝓖 .A) (𝓜 .mem) (𝓡 .run)) 𝓜 𝓡 code.env #part part-def.routine code.calls-tables·part (part-thm.met 𝓤 H 𝓜 𝓖 𝓡))
     (cited 𝓤 H (Conclude 𝓤 H (𝓖 .A) (𝓜 .mem) (𝓡 .run)) 𝓜 𝓡 code.env #conclude conclude-def.routine code.calls-limits·fits·conclude (conclude-thm.met 𝓤 H 𝓜 𝓖 𝓡)))

@@ -1,7 +1,7 @@
 -- The check of the table, half after half, is that the table fits: the running sum is the sum of the ends as long as all fit and it stays within the credit.
 -- Assumes nothing.
 use mathlib.Core.Path.{_≡_, refl, sym, _∙_, ap}
-use mathlib.Core.Bool.{Bool, true, false, _&&_, and-eq-true-iff, true≢false}
+use mathlib.Core.Bool.{Bool, true, false, _&&_}
 use mathlib.Core.List.{List}
 use Prim.Native.Nat.{ℕ, zero, suc, _+_, _*_, _/_, _%_, _≤_, _<_}
 use native.Mathlib.Omega.{arith}
@@ -21,10 +21,8 @@ use Rattle.streams.specs.Entry.{entryAt}
 use Rattle.streams.specs.Conn.{openedOf, initialOf}
 use Rattle.limits.specs.Fits.{entryFits, connFits, sumTo, allTo, fits, summedOf, concludedOf}
 use Rattle.streams.specs.Opening.{unopenedOf, openingOf}
-use Rattle.steps.specs.Gate.{gateOf}
 use Rattle.steps.specs.Opening.{openingWhen, entriesOf}
-use Rattle.receive.specs.Table.{summedTo}
-use Rattle.receive.specs.Taking.{gateAt}
+use Rattle.tables.specs.Table.{summedTo}
 
 module _ (c : Conn) (t : List Entry) where
   -- the check of the first n entries, whatever their halves
@@ -109,20 +107,6 @@ module _ (c : Conn) (t : List Entry) where
 
   pub whole-fits : length t ≡ 192 → concludedOf c third ≡ fits c t
   whole-fits h = ap (concludedOf c) all-three ∙ concluded h
-
-  -- a table that fits has 192 entries
-  pub fits-long : fits c t ≡ true → length t ≡ 192
-  unfolding fits
-  fits-long h = eqb-true (length t) 192 (and-eq-true-iff (eqb (length t) 192) _ .0 h .0)
-
-  -- and so has one whose call may go on
-  pub gate-long : gateAt c t .passes ≡ true → length t ≡ 192
-  unfolding gateOf
-  gate-long = go (fits c t) refl
-    where
-      go : (b : Bool) → fits c t ≡ b → gateOf b (c .mark) .passes ≡ true → length t ≡ 192
-      go true e p = fits-long e
-      go false e p = absurd (true≢false (sym p))
 
   pub short-unfit : eqb (length t) 192 ≡ false → false ≡ fits c t
   unfolding fits

@@ -1,4 +1,4 @@
--- A call of `receive::whole::part` as one step of a walk: what its contract asks, and what it gives.
+-- A call of `tables::part` as one step of a walk: what its contract asks, and what it gives.
 -- Assumes `Given`.
 use mathlib.Core.Path.{_≡_, refl}
 use Prim.Native.Nat.{ℕ, _<_, _≤_, _+_, _^_}
@@ -25,15 +25,15 @@ use denote.Triple.Spec.{tripleOf}
 use denote.Triple.Clauses.{lasts, Lasts}
 use denote.Triple.Statement.{Contract}
 use denote.Triple.Walked.{says}
-use Rattle.receive.specs.Table.{summedTo}
+use Rattle.tables.specs.Table.{summedTo}
 use Rattle.limits.specs.declared.fits.Summed.{Summed}
 use Rattle.limits.proofs.fits.Summed as TSummed
 use Rattle.limits.proofs.fits.Summed.Laws as TSummed′
 use Rattle.streams.specs.declared.Entry.{Entry}
 use Rattle.streams.proofs.Entry as TEntry
-use Rattle.receive.proofs.Calls.{post-of}
-use Rattle.receive.proofs.Lent.{ref, vals}
-use Rattle.receive.proofs.whole.part as g
+use Rattle.tables.proofs.Calls.{post-of}
+use Rattle.tables.proofs.Lent.{ref, vals}
+use Rattle.tables.proofs.part as g
 
 module _ {M : Type 1} (𝓤 : URA M) (H : Heap 𝓤) (A : Atoms 𝓤) (mem : Memory → SProp 𝓤) (run : Routine → Fun 𝓤) where
   abbrev pub Part : Contract 𝓤

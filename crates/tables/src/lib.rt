@@ -1,23 +1,26 @@
-// The whole table: whether it fits its connection, half after half in one pass; and its entries as opening sets them.
+// The lent stream table as a whole: whether it fits its connection, half after half in one pass, and its entries as opening
+// sets them. No other call looks at more of it than one entry.
 ghost use mathlib.Core.Path.{_≡_};
 ghost use Prim.Native.Nat.{_+_, _-_, _≤_};
 ghost use lib.ListN.{length};
 ghost use Rattle.limits.specs.Fits;
-ghost use Rattle.receive.specs.Table.{summedTo, untouchedTo, filledTo};
+ghost use Rattle.steps.specs.Opening.{openingWhen};
+ghost use Rattle.tables.specs.Table.{summedTo, untouchedTo, filledTo, openedTable};
 use limits::fits::Summed;
 use streams::Conn;
 use streams::Entry;
 use streams::Limits;
+use streams::Opened;
 
 // Whether the entries of a half from an ordinal up to the last are as opening sets them; the first of them is at a place.
-pub(crate) fn rest(t: &[Entry], from: usize, ordinal: u64, initial: u64) -> bool
+fn rest(t: &[Entry], from: usize, ordinal: u64, initial: u64) -> bool
     requires { ⌜ from + (64 - ordinal) ≤ length (now t) ⌝ }
     ensures { λ r. ⌜ r ≡ untouchedTo (now (t .entry)) from initial (64 - ordinal) ⌝ }
 {
     let mut same = true;
     let mut n = ordinal;
     let mut i = from;
-    while n < 64 {
+    while n < Conn::MOST_STREAMS {
         same = limits::rest::untouched(same, t[i], initial);
         n += 1;
         i += 1;
@@ -26,14 +29,7 @@ pub(crate) fn rest(t: &[Entry], from: usize, ordinal: u64, initial: u64) -> bool
 }
 
 // The check of the 64 entries of a half, from a place on: the opened ones one by one, the rest together.
-pub(crate) fn part(
-    t: &[Entry],
-    from: usize,
-    credit: u64,
-    opened: u64,
-    initial: u64,
-    before: Summed,
-) -> Summed
+fn part(t: &[Entry], from: usize, credit: u64, opened: u64, initial: u64, before: Summed) -> Summed
     requires { ⌜ from + 64 ≤ length (now t) ⌝ }
     ensures { λ r. ⌜ r ≡ summedTo (now (t .entry)) from credit opened initial before 64 ⌝ }
 {
@@ -51,10 +47,10 @@ pub(crate) fn part(
 }
 
 // Whether the connection and its table fit: no 120.
-pub(crate) fn fits(c: Conn, t: &[Entry]) -> bool
+pub fn fits(c: Conn, t: &[Entry]) -> bool
     ensures { λ r. ⌜ r ≡ Fits.fits c (now (t .entry)) ⌝ }
 {
-    if t.len() != 192 {
+    if t.len() != Conn::ENTRIES {
         return false;
     }
     let p = limits::fits::part_of(c, 0);
@@ -67,7 +63,7 @@ pub(crate) fn fits(c: Conn, t: &[Entry]) -> bool
 }
 
 // Sets the first n entries as opening does.
-pub(crate) fn fill(t: &mut [Entry], n: usize, limits: Limits)
+fn fill(t: &mut [Entry], n: usize, limits: Limits)
     requires { ⌜ n ≤ length (now t) ⌝ }
     ensures { λ _. ⌜ now (t .exit) ≡ filledTo n (now (t .entry)) limits ⌝ }
 {
@@ -76,4 +72,14 @@ pub(crate) fn fill(t: &mut [Entry], n: usize, limits: Limits)
         t[i] = steps::opening::entry(i, limits);
         i += 1;
     }
+}
+
+// Opens a connection: 120 unless the table has 192 entries, then 103. Every entry is set to its half's initial credit.
+pub fn open(t: &mut [Entry], limits: Limits) -> Opened
+    ensures { λ r. ⌜ (r ≡ openingWhen (length (now (t .entry))) limits) × (now (t .exit) ≡ openedTable (now (t .entry)) limits) ⌝ }
+{
+    let o = steps::opening::open(t.len(), limits);
+    let n = steps::opening::entries(o.answer);
+    fill(t, n, limits);
+    o
 }

@@ -15,7 +15,7 @@ use Rattle.streams.specs.Entry.{mostCredit, entryAt}
 use Rattle.limits.specs.Fits.{isFresh, summedOf}
 use Rattle.limits.specs.Rest.{openedIn, restOf}
 use Rattle.limits.proofs.Fresh.{fresh-fits, changed-unfit}
-use Rattle.receive.specs.Table.{summedTo, untouchedTo}
+use Rattle.tables.specs.Table.{summedTo, untouchedTo}
 
 -- no more than 64 are opened
 pub opened-within : (opened : ℕ) → openedIn opened ≤ 64

@@ -1,6 +1,6 @@
--- `receive::whole::fill` meets its contract: the loop holds the table with the entries so far set. The table is opened once, before the loop, and closed after it.
+-- `tables::fill` meets its contract: the loop holds the table with the entries so far set. The table is opened once, before the loop, and closed after it.
 -- Assumes nothing.
-use Rattle.receive.proofs.Plain.{calls-fn}
+use Rattle.tables.proofs.Plain.{calls-fn}
 use mathlib.Core.Path.{_≡_, refl, sym, ap, subst, _∙_}
 use Prim.Native.Nat.{ℕ, _+_, _-_, _*_, _≤_, _<_, _^_}
 use native.Mathlib.Omega.{arith}
@@ -56,21 +56,21 @@ use Rattle.streams.proofs.Limits.Laws as TLimits′
 use Rattle.streams.specs.Entry.{fresh}
 use Rattle.halves.specs.Stream.{mostStreams}
 use Rattle.streams.specs.Conn.{initialOf}
-use Rattle.receive.proofs.Leave.{leaves}
-use Rattle.receive.specs.Table.{filledTo}
-use Rattle.receive.proofs.Cases.{cases, is-true, is-false}
+use Rattle.tables.proofs.Leave.{leaves}
+use Rattle.tables.specs.Table.{filledTo}
+use Rattle.tables.proofs.Cases.{cases, is-true, is-false}
 use Rattle.streams.specs.declared.Entry.{Entry}
 use Rattle.streams.proofs.Entry as TEntry
 use Rattle.streams.proofs.Entry.Laws as TEntry′
-use Rattle.receive.proofs.whole.fill.Key.{name as #f}
-use Rattle.receive.proofs.whole.fill as f
-use Rattle.receive.proofs.whole.fill.Statement as stated
-use Rattle.receive.proofs.whole.fill.Code as code
-use Rattle.receive.proofs.whole.fill.Code.Mir as mir
+use Rattle.tables.proofs.fill.Key.{name as #f}
+use Rattle.tables.proofs.fill as f
+use Rattle.tables.proofs.fill.Statement as stated
+use Rattle.tables.proofs.fill.Code as code
+use Rattle.tables.proofs.fill.Code.Mir as mir
 use Rattle.steps.proofs.opening.entry.Symbol as entry-def
 use Rattle.steps.proofs.opening.entry.Symbol.{name as #entry}
 use Rattle.steps.proofs.opening.entry.Met as entry-thm
-use Rattle.receive.proofs.Lent.{vals}
+use Rattle.tables.proofs.Lent.{vals}
 use Rattle.steps.proofs.opening.entry as entry-fn
 
 abbrev stayed : Stays (f.ended .signature .params) (f.ended .kept)

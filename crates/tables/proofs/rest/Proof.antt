@@ -1,6 +1,6 @@
--- `receive::whole::rest` meets its contract: the loop holds whether the entries so far are as opening sets them. The table is looked into once, before the loop, and shut after it.
+-- `tables::rest` meets its contract: the loop holds whether the entries so far are as opening sets them. The table is looked into once, before the loop, and shut after it.
 -- Assumes nothing.
-use Rattle.receive.proofs.Plain.{calls-fn}
+use Rattle.tables.proofs.Plain.{calls-fn}
 use mathlib.Core.Path.{_≡_, refl, sym, ap, _∙_}
 use Prim.Native.Nat.{ℕ, _+_, _-_, _*_, _≤_, _<_, _^_}
 use native.Mathlib.Omega.{arith}
@@ -52,17 +52,17 @@ use denote.Memory.{shares}
 use mathlib.Core.Bool.{_&&_}
 use Rattle.streams.specs.Entry.{fresh, entryAt}
 use Rattle.limits.specs.Fits.{isFresh}
-use Rattle.receive.proofs.Leave.{leaves}
-use Rattle.receive.specs.Table.{untouchedTo}
-use Rattle.receive.proofs.Cases.{cases, is-true, is-false}
+use Rattle.tables.proofs.Leave.{leaves}
+use Rattle.tables.specs.Table.{untouchedTo}
+use Rattle.tables.proofs.Cases.{cases, is-true, is-false}
 use Rattle.streams.specs.declared.Entry.{Entry}
 use Rattle.streams.proofs.Entry as TEntry
 use Rattle.streams.proofs.Entry.Laws as TEntry′
-use Rattle.receive.proofs.whole.rest.Key.{name as #f}
-use Rattle.receive.proofs.whole.rest as f
-use Rattle.receive.proofs.whole.rest.Statement as stated
-use Rattle.receive.proofs.whole.rest.Code as code
-use Rattle.receive.proofs.whole.rest.Code.Mir as mir
+use Rattle.tables.proofs.rest.Key.{name as #f}
+use Rattle.tables.proofs.rest as f
+use Rattle.tables.proofs.rest.Statement as stated
+use Rattle.tables.proofs.rest.Code as code
+use Rattle.tables.proofs.rest.Code.Mir as mir
 use Rattle.limits.proofs.rest.untouched.Symbol as same-def
 use Rattle.limits.proofs.rest.untouched.Symbol.{name as #same}
 use Rattle.limits.proofs.rest.untouched.Met as same-thm

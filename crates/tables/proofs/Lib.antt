@@ -1,0 +1,11 @@
+pub mod Calls
+pub mod Cases
+pub mod FillCall
+pub mod Leave
+pub mod Lent
+pub mod PartCall
+pub mod Plain
+pub mod RestCall
+pub mod Tables
+pub mod Unique
+pub mod Unopened
