@@ -5,7 +5,7 @@ use Rattle.halves.specs.Stream.{idOf}
 use Rattle.streams.specs.Entry.{finalOf}
 use Rattle.streams.specs.Conn.{countOf, handedOutOf}
 use Rattle.streams.specs.Opening.{limitsFit, openingOf}
-use Rattle.rules.specs.View.{endOf}
+use Rattle.views.specs.View.{endOf}
 use Rattle.rules.specs.Rules.{rule1, rule2, blockedOf, forSenderOf}
 use Rattle.rules.specs.Verdict.{verdictOf, connHeard}
 use Rattle.calls.specs.Calls.{raiseOf, replyOf, settledOf, ruledOf, repliedOf}

@@ -22,7 +22,7 @@ use Rattle.halves.specs.Stream.{mostStreams, placeOf}
 use Rattle.streams.specs.Entry.{mostCredit, finalOf, fresh, reached, credited, entryAt, entryOf}
 use Rattle.streams.specs.Conn.{initialOf, openedOf, countOf}
 use Rattle.streams.specs.Opening.{limitsFit, openedConn, unopenedOf, openingOf}
-use Rattle.rules.specs.declared.View.the-variants.{Ends, Blocks, ForSender, Acks, Closes, Nothing}
+use Rattle.views.specs.declared.View.the-variants.{Ends, Blocks, ForSender, Acks, Closes, Nothing}
 use Rattle.rules.specs.Rules.{endsOf}
 use Rattle.rules.specs.Verdict.{verdictOf, entryHeard}
 use Rattle.calls.specs.declared.Call.the-variants.{RaiseCredit, RaiseStream, RaiseCount, OpenNext}

@@ -15,9 +15,9 @@ use Rattle.streams.specs.declared.Space.the-variants.{Initial, Handshake, Appli
 use Rattle.streams.specs.Entry.{fresh}
 use Rattle.streams.specs.Conn.{openedOf, handedOutOf}
 use Rattle.streams.specs.Opening.{openedConn, openingOf}
-use Rattle.rules.specs.declared.View.{View}
-use Rattle.rules.specs.declared.View.the-variants.{Ends, Blocks, ForSender, Acks, Closes, Nothing}
-use Rattle.rules.specs.View.{viewOf}
+use Rattle.views.specs.declared.View.{View}
+use Rattle.views.specs.declared.View.the-variants.{Ends, Blocks, ForSender, Acks, Closes, Nothing}
+use Rattle.views.specs.View.{viewOf}
 use Rattle.rules.specs.Verdict.{verdictOf, connHeard}
 use Rattle.calls.specs.declared.Call.{Call}
 use Rattle.calls.specs.declared.Call.the-variants.{RaiseCredit, RaiseStream, RaiseCount, OpenNext}

@@ -19,9 +19,9 @@ use Rattle.halves.specs.Stream.{streamOf, halfOf, ordinalOf, receives, mostStre
 use Rattle.streams.specs.Entry.{fresh, entryOf}
 use Rattle.streams.specs.Conn.{isOpen, initialOf, countOf, handedOn, handedOutOf}
 use Rattle.streams.specs.Opening.{openedConn, openingOf}
-use Rattle.rules.specs.declared.View.{View}
-use Rattle.rules.specs.declared.View.the-variants.{Ends, Blocks, ForSender, Acks, Closes, Nothing}
-use Rattle.rules.specs.View as views
+use Rattle.views.specs.declared.View.{View}
+use Rattle.views.specs.declared.View.the-variants.{Ends, Blocks, ForSender, Acks, Closes, Nothing}
+use Rattle.views.specs.View as views
 use Rattle.rules.specs.Rules.{rule1, rule2, rule3, rule4}
 use Rattle.rules.specs.Verdict.{verdictOf, connHeard, entryHeard}
 use Rattle.calls.specs.declared.Call.{Call}

@@ -1,11 +1,8 @@
 pub mod Acknowledged
 pub mod Begins
-pub mod Bench
 pub mod Fitting
 pub mod Kept
 pub mod Lifted
-pub mod Neighbours
-pub mod Packets
 pub mod Proved
 pub mod Recorded
 pub mod Refusals

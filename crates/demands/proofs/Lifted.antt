@@ -37,8 +37,8 @@ use Rattle.streams.specs.declared.Opened.{Opened}
 use Rattle.streams.specs.Entry.{mostCredit, fresh, entryAt, entryOf}
 use Rattle.streams.specs.Conn.{isOpen, markedAs, initialOf, nextOf, handedOn, handedOutOf, spaceOf}
 use Rattle.streams.specs.Opening.{limitsFit, openedConn, unopenedOf, openingOf}
-use Rattle.rules.specs.declared.View.{View}
-use Rattle.rules.specs.View.{viewOf, streamIn}
+use Rattle.views.specs.declared.View.{View}
+use Rattle.views.specs.View.{viewOf, streamIn}
 use Rattle.rules.specs.Verdict.{verdictOf, settledOf, judgedOf}
 use Rattle.calls.specs.declared.Call.{Call}
 use Rattle.calls.specs.declared.Replied.{Replied}

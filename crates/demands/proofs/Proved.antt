@@ -31,10 +31,10 @@ use Rattle.streams.specs.Entry.{entryAt, entryOf}
 use Rattle.streams.specs.Conn.{isOpen, markedAs, countOf}
 use Rattle.halves.specs.Stream.{halfOf}
 use Rattle.rules.specs.declared.Judged.{Judged}
-use Rattle.rules.specs.declared.View.{View}
-use Rattle.rules.specs.declared.View.the-variants.{Ends}
+use Rattle.views.specs.declared.View.{View}
+use Rattle.views.specs.declared.View.the-variants.{Ends}
 use Rattle.rules.specs.Rules.{rule5}
-use Rattle.rules.specs.View.{viewOf, streamIn}
+use Rattle.views.specs.View.{viewOf, streamIn}
 use Rattle.rules.specs.Verdict.{verdictOf, settledOf, judgedOf}
 use Rattle.limits.specs.Fits.{fits}
 use Rattle.packets.specs.declared.Begun.{Begun}

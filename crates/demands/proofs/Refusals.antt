@@ -26,7 +26,7 @@ use Rattle.halves.specs.Stream.{placeOf}
 use Rattle.streams.specs.Entry.{entryAt, entryOf, mostCredit}
 use Rattle.streams.specs.Conn.{isOpen, markedAs, nextOf, handedOutOf}
 use Rattle.answers.specs.Answers.{accepts}
-use Rattle.rules.specs.View.{viewOf, streamIn, framePlace}
+use Rattle.views.specs.View.{viewOf, streamIn, framePlace}
 use Rattle.rules.specs.Verdict.{verdictOf, settledOf, judgedOf}
 use Rattle.calls.specs.declared.Call.{Call}
 use Rattle.calls.specs.declared.Replied.{Replied}

@@ -14,8 +14,8 @@ use Rattle.streams.specs.declared.Mark.the-variants.{Open}
 use Rattle.halves.specs.Stream.{halfOf, listed}
 use Rattle.streams.specs.Entry.{entryOf}
 use Rattle.streams.specs.Conn.{countOf}
-use Rattle.rules.specs.declared.View.the-variants.{Ends}
-use Rattle.rules.specs.View.{viewOf}
+use Rattle.views.specs.declared.View.the-variants.{Ends}
+use Rattle.views.specs.View.{viewOf}
 use Rattle.rules.specs.Rules.{rule5}
 use Rattle.limits.specs.Fits.{sumTo}
 use Rattle.receive.specs.Taking.{begunOf}

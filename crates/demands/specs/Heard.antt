@@ -12,8 +12,8 @@ use Rattle.frames.specs.declared.Reading.the-variants.{Got, Refused}
 use Rattle.frames.specs.Reading.{frameAt}
 use Rattle.streams.specs.declared.Entry.{Entry}
 use Rattle.streams.specs.declared.Limits.{Limits}
-use Rattle.rules.specs.declared.View.{View}
-use Rattle.rules.specs.View.{viewOf}
+use Rattle.views.specs.declared.View.{View}
+use Rattle.views.specs.View.{viewOf}
 use Rattle.packets.specs.declared.Begun.{Begun}
 use Rattle.receive.specs.Walk.{stepHeard, walkAll}
 use Rattle.receive.specs.Taking.{gateAt, begunOf}

@@ -4,7 +4,4 @@ pub mod Heard
 pub mod Demand1
 pub mod Demand3
 pub mod Recorded
-pub mod Packets
-pub mod Bench
-pub mod Neighbours
 pub mod Kept

@@ -16,7 +16,7 @@ use Rattle.frames.specs.declared.Kind.{Kind}
 use Rattle.frames.proofs.Order.{padding}
 use Rattle.streams.specs.declared.Conn.{Conn}
 use Rattle.streams.specs.declared.Entry.{Entry}
-use Rattle.rules.specs.declared.View.the-variants.{Nothing}
+use Rattle.views.specs.declared.View.the-variants.{Nothing}
 use Rattle.halves.specs.Stream.{placeOf}
 use Rattle.streams.specs.Entry.{fresh, entryAt}
 use Rattle.streams.specs.Conn.{isOpen}

@@ -15,7 +15,7 @@ use Rattle.streams.specs.declared.Entry.{Entry}
 use Rattle.halves.specs.Stream.{entries}
 use Rattle.streams.specs.Entry.{entryAt}
 use Rattle.streams.specs.Conn.{isOpen}
-use Rattle.rules.specs.declared.View.{View}
+use Rattle.views.specs.declared.View.{View}
 use Rattle.steps.specs.declared.Stepped.{Stepped}
 use Rattle.packets.specs.declared.Stopped.{Stopped}
 use Rattle.steps.specs.declared.Decided.{Decided}

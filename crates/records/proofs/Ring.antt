@@ -13,7 +13,7 @@ use lib.Dec.{leb, eqb}
 use borrow.Author.Tests.{lt-ltb, le-ltb, le-leb, lt-leb, eq-eqb, ne-eqb}
 use Rattle.records.specs.declared.Record.{Record}
 use Rattle.ring.specs.Bits.{bit, bitAt}
-use Rattle.ring.specs.Parts.{Kept, Put}
+use Rattle.ring.specs.Parts.{Without, Put}
 use Rattle.records.specs.Marks.{recorded, Sound}
 use Rattle.records.specs.Parts.{Whole, Cleared, Slid, Marked}
 
@@ -40,9 +40,9 @@ unfolding bitAt
 same-place vs m n a b = cc
 
 -- a store to the word of `at` of that word without the bits from the place of `at` up to hi
-module _ (vs : List ℕ) (at hi r : ℕ) (len : length vs ≡ 128) (kept : Kept (getD vs (at / 64 % 128) 0) (at % 64) hi r) where
+module _ (vs : List ℕ) (at hi r : ℕ) (len : length vs ≡ 128) (word : Without (getD vs (at / 64 % 128) 0) (at % 64) hi r) where
   in-part : (m : ℕ) → m / 64 % 128 ≡ at / 64 % 128 → at % 64 ≤ m % 64 → m % 64 < hi → bitAt (set vs (at / 64 % 128) r) m ≡ 0
-  in-part m e l h = same-word vs (at / 64 % 128) r m (omega arith) e ∙ kept .out (m % 64) l h
+  in-part m e l h = same-word vs (at / 64 % 128) r m (omega arith) e ∙ word .out (m % 64) l h
 
   off-part : (m : ℕ) → (m / 64 % 128 ≡ at / 64 % 128 → at % 64 ≤ m % 64 → m % 64 < hi → ⊥) → bitAt (set vs (at / 64 % 128) r) m ≡ bitAt vs m
   unfolding bitAt
@@ -53,13 +53,13 @@ module _ (vs : List ℕ) (at hi r : ℕ) (len : length vs ≡ 128) (kept : Kept 
 
       go : Dec (m / 64 % 128 ≡ at / 64 % 128) → Dec (at % 64 ≤ m % 64) → Dec (hi ≤ m % 64) → bitAt (set vs (at / 64 % 128) r) m ≡ bitAt vs m
       go (no g) a b = other-word vs (at / 64 % 128) r m g
-      go (yes e) (no a) b = same-word vs (at / 64 % 128) r m (omega arith) e ∙ kept .low (m % 64) (omega arith) ∙ back e
-      go (yes e) (yes a) (yes b) = same-word vs (at / 64 % 128) r m (omega arith) e ∙ kept .high (m % 64) b (omega arith) ∙ back e
+      go (yes e) (no a) b = same-word vs (at / 64 % 128) r m (omega arith) e ∙ word .low (m % 64) (omega arith) ∙ back e
+      go (yes e) (yes a) (yes b) = same-word vs (at / 64 % 128) r m (omega arith) e ∙ word .high (m % 64) b (omega arith) ∙ back e
       go (yes e) (yes a) (no b) = absurd (f e a (omega arith))
 
 -- one turn of the clearing
 pub clear-turn : (ws vs : List ℕ) (from at hi r : ℕ) → length vs ≡ 128 → from ≤ at → at % 64 < hi → hi ≤ 64 → at + (hi - at % 64) ≤ from + 8192
-    → Kept (getD vs (at / 64 % 128) 0) (at % 64) hi r → Cleared ws from at vs → Cleared ws from (at + (hi - at % 64)) (set vs (at / 64 % 128) r)
+    → Without (getD vs (at / 64 % 128) 0) (at % 64) hi r → Cleared ws from at vs → Cleared ws from (at + (hi - at % 64)) (set vs (at / 64 % 128) r)
 clear-turn ws vs from at hi r len start some word room kept done = record {
   out = λ m a b. go m a b (decLe at m);
   rest = λ m a b. off-part vs at hi r len kept m (omega arith) ∙ done .rest m (omega arith) b;

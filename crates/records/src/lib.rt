@@ -2,7 +2,7 @@
 ghost use mathlib.Core.Path.{_≡_};
 ghost use Prim.Native.Nat.{_+_, _≤_, _<_, _^_};
 ghost use Rattle.ring.specs.Runs.{nextRun};
-ghost use Rattle.ring.specs.Parts.{Kept, Put};
+ghost use Rattle.ring.specs.Parts.{Without, Put};
 ghost use Rattle.records.specs.Marks.{recorded, noneOf, checkOf, testOf};
 ghost use Rattle.records.specs.Ring.{takenOf, takenIn};
 ghost use Rattle.records.specs.Parts.{joined, Whole, Cleared, Slid, Marked};
@@ -32,9 +32,9 @@ pub struct Topped {
 const MOST: u64 = 4611686018427387903;
 
 // The word w without the bits from lo up to hi.
-fn kept(w: u64, lo: u64, hi: u64) -> u64
+fn without(w: u64, lo: u64, hi: u64) -> u64
     requires { ⌜ (lo < hi) × (hi ≤ 64) ⌝ }
-    ensures { λ r. ⌜ Kept w lo hi r ⌝ }
+    ensures { λ r. ⌜ Without w lo hi r ⌝ }
 {
     let low = w % (1u64 << lo);
     // no shift may go by all 64 bits of a word
@@ -103,7 +103,7 @@ fn clear(words: &mut [u64; 128], from: u64, to: u64)
             hi = lo + (to - at);
         }
         let k = (at / 64 % 128) as usize;
-        words[k] = kept(words[k], lo, hi);
+        words[k] = without(words[k], lo, hi);
         at = at + (hi - lo);
     }
 }

@@ -9,7 +9,7 @@ use lib.Pow.{pow-pos, pow-mono, pow-lt, shr-shr, field, mod-mod-pow, high, low}
 use lib.Count.{leading-top}
 use lib.Bits.{bitOr, or-shr, or-step}
 use Rattle.ring.specs.Bits.{bit}
-use Rattle.ring.specs.Parts.{Kept, Put}
+use Rattle.ring.specs.Parts.{Without, Put}
 
 pub bit-lt : (w i : ℕ) → bit w i < 2
 unfolding bit
@@ -53,15 +53,15 @@ pub shr-shl : (w k : ℕ) → w < 2 ^ 64 → w / 2 ^ k * 2 ^ k % 2 ^ 64 ≡ w / 
 shr-shl w k h = mod-eq-of-lt (lt-of-le-of-lt (div-mul-le-self w (2 ^ k)) h)
 
 -- a part cleared, up to the top or below it
-pub kept-top : (w lo : ℕ) → Kept w lo 64 (w % 2 ^ lo)
-kept-top w lo = record {
+pub without-top : (w lo : ℕ) → Without w lo 64 (w % 2 ^ lo)
+without-top w lo = record {
   out = λ i a b. bit-past (w % 2 ^ lo) lo i (mod-lt w (pow-pos lo)) a;
   low = λ i a. bit-low w lo i a;
   high = λ i a b. absurd (omega arith);
 }
 
-pub kept-mid : (w lo hi : ℕ) → lo ≤ hi → Kept w lo hi (w / 2 ^ hi * 2 ^ hi + w % 2 ^ lo)
-kept-mid w lo hi h =
+pub without-mid : (w lo hi : ℕ) → lo ≤ hi → Without w lo hi (w / 2 ^ hi * 2 ^ hi + w % 2 ^ lo)
+without-mid w lo hi h =
     let s : w % 2 ^ lo < 2 ^ hi = omega (arith, mod-lt w (pow-pos lo), pow-mono h) in
     record {
       out = λ i a b. cat-low (w / 2 ^ hi) hi (w % 2 ^ lo) i s b ∙ bit-past (w % 2 ^ lo) lo i (mod-lt w (pow-pos lo)) a;
@@ -95,8 +95,8 @@ put-bit w b = record {
 }
 
 -- and it is no larger than the word
-pub kept-fits : (w lo hi : ℕ) → lo ≤ hi → w < 2 ^ 64 → w / 2 ^ hi * 2 ^ hi + w % 2 ^ lo < 2 ^ 64
-kept-fits w lo hi h l =
+pub without-fits : (w lo hi : ℕ) → lo ≤ hi → w < 2 ^ 64 → w / 2 ^ hi * 2 ^ hi + w % 2 ^ lo < 2 ^ 64
+without-fits w lo hi h l =
     let e : w % 2 ^ hi % 2 ^ lo ≡ w % 2 ^ lo = ap (λ (x : ℕ). w % 2 ^ x % 2 ^ lo) (sym (sub-add-cancel h)) ∙ mod-mod-pow w (hi - lo) lo in
     omega (arith, div-add-mod' w (2 ^ hi), mod-le (w % 2 ^ hi) (2 ^ lo))
 

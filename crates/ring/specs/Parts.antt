@@ -6,7 +6,7 @@ use mathlib.Core.List.{List}
 use Rattle.ring.specs.Bits.{asBit, bit, bitAt}
 
 -- r is the word w without the bits from lo up to hi
-pub record Kept (w lo hi r : ℕ) : Type 0 where
+pub record Without (w lo hi r : ℕ) : Type 0 where
   pub out : (i : ℕ) → lo ≤ i → i < hi → bit r i ≡ 0
   pub low : (i : ℕ) → i < lo → bit r i ≡ bit w i
   pub high : (i : ℕ) → hi ≤ i → i < 64 → bit r i ≡ bit w i

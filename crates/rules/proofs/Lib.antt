@@ -1,5 +1,4 @@
 pub mod Order
-pub mod Others
 pub mod Sender
 pub mod Taken
 pub mod Tests

@@ -1,15 +1,15 @@
 // The verdict on a frame for the connection and the one entry that it looks at.
 ghost use mathlib.Core.Path.{_≡_};
 ghost use Rattle.streams.specs.Entry.{reached};
-ghost use Rattle.rules.specs.declared.View.the-variants.{Ends};
+ghost use Rattle.views.specs.declared.View.the-variants.{Ends};
 ghost use Rattle.rules.specs.Verdict.{settledOf, judgedOf};
 use crate::Judged;
-use crate::View;
 use crate::five;
 use answers::Answer;
 use streams::Conn;
 use streams::Entry;
 use streams::Mark;
+use views::View;
 
 // An entry after an accepted STREAM or RESET_STREAM frame.
 fn after(e: Entry, end: u64, fin: bool) -> Entry

@@ -13,10 +13,10 @@ use Rattle.streams.specs.declared.Conn.{Conn}
 use Rattle.streams.specs.declared.Entry.{Entry}
 use Rattle.streams.specs.declared.Mark.the-variants.{Code}
 use Rattle.rules.specs.declared.Judged.{Judged}
-use Rattle.rules.specs.declared.View.the-variants.{Nothing}
+use Rattle.views.specs.declared.View.the-variants.{Nothing}
 use Rattle.streams.specs.Conn.{isOpen, markedAs}
 use Rattle.answers.specs.Answers.{accepts}
-use Rattle.rules.specs.View.{viewOf, framePlace}
+use Rattle.views.specs.View.{viewOf, framePlace}
 use Rattle.rules.specs.Verdict.{judgedOf}
 use Rattle.steps.specs.declared.Request.{Request}
 use Rattle.steps.specs.declared.Decided.{Decided}

@@ -10,10 +10,10 @@ use answers::Answer;
 use frames::Kind;
 use frames::Reading;
 use rules::Judged;
-use rules::View;
 use streams::Conn;
 use streams::Entry;
 use streams::Mark;
+use views::View;
 use wire::Number;
 
 // What a frame asks for, from what reading it gave.
@@ -22,9 +22,9 @@ fn requested(kind: Kind, at: usize, r: Reading) -> Request
 {
     match r {
         Reading::Got { frame, ty, next } => {
-            let view = rules::views::view(kind, frame);
+            let view = views::of_frame(kind, frame);
             Request {
-                place: rules::views::place(view),
+                place: views::place(view),
                 next,
                 ty,
                 answer: Answer::Accepted,

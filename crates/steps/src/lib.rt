@@ -6,9 +6,9 @@ pub mod opening;
 
 use answers::Answer;
 use frames::Frame;
-use rules::View;
 use streams::Conn;
 use streams::Entry;
+use views::View;
 
 // What a frame at a place asks for: the place of the entry that it looks at, the place after the frame, its type and what
 // it asks of the streams; or the code that refuses it as it stands.

@@ -25,8 +25,8 @@ loop-holds c = (search needs, search needs, c .pre .3, clear-none _ _)
 part : (c : tie.Joined1 Inv-loop μ-loop) → let at = c .before .before .loop .at in (at % 64 < c .if1 .hi) × (c .if1 .hi ≤ 64) × (at + (c .if1 .hi - at % 64) ≤ c .before .before .before .args .to)
 part c = ⊎-elim (λ w. omega arith) (λ w. omega arith) (c .if1 .came)
 
-kept-requires : tie.Need-kept-requires Inv-loop μ-loop
-kept-requires c κs = (part (c .before) .0, part (c .before) .1)
+without-requires : tie.Need-without-requires Inv-loop μ-loop
+without-requires c κs = (part (c .before) .0, part (c .before) .1)
 
 sub-at : tie.Need-sub-at Inv-loop μ-loop
 sub-at c = omega (arith, part (c .before .before .before))
@@ -41,8 +41,8 @@ loop-again : tie.Need-loop-again Inv-loop μ-loop
 loop-again c =
     let p = part (c .before .before .before) in
     let i = c .before .before .before .before .before .loop .inv in
-    let f : Fits w64 (c .before .kept .result) = search needs in
-    (omega arith, omega arith, whole-set _ _ _ (omega arith) (f .fits) (i .2), clear-turn _ _ _ _ _ _ (i .2 .long) (i .0) (p .0) (p .1) (omega arith) (c .before .kept .ensures) (i .3))
+    let f : Fits w64 (c .before .without .result) = search needs in
+    (omega arith, omega arith, whole-set _ _ _ (omega arith) (f .fits) (i .2), clear-turn _ _ _ _ _ _ (i .2 .long) (i .0) (p .0) (p .1) (omega arith) (c .before .without .ensures) (i .3))
 
 returns : tie.Need-returns Inv-loop μ-loop
 returns c =
@@ -62,7 +62,7 @@ clear-spec =
     (λ c. omega arith)
     (λ c. omega arith)
     (λ c. omega arith)
-    kept-requires
+    without-requires
     (λ c. omega arith)
     (λ c. omega arith)
     sub-at

@@ -7,7 +7,7 @@ use Rattle.steps.proofs.frame.requested.Tie as tie
 
 returns : tie.Need-returns
 unfolding requestOf
-returns c = rw (c .before .before .before .r .given .1, c .place .ensures, c .before .view .ensures)
+returns c = rw (c .before .before .before .r .given .1, c .place .ensures, c .before .of-frame .ensures)
 
 returns-2 : tie.Need-returns-2
 unfolding requestOf

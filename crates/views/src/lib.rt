@@ -1,10 +1,20 @@
 // What a frame asks of the streams, and the place of the entry that it looks at.
 ghost use mathlib.Core.Path.{_≡_};
-ghost use Rattle.rules.specs.View.{endOf, viewOf, framePlace};
-use crate::View;
+ghost use Rattle.views.specs.View.{endOf, viewOf, framePlace};
 use frames::Frame;
 use frames::Kind;
 use streams::Space;
+
+// What a frame asks of the streams: to take a stream's data up to an end; to note that a stream is blocked, or something
+// for our sending half of one; to note an acknowledgement; to close the connection; or nothing.
+pub enum View {
+    Ends { id: u64, end: u64, fin: bool },
+    Blocks { id: u64 },
+    ForSender { id: u64 },
+    Acks { space: Space, largest: u64 },
+    Closes,
+    Nothing,
+}
 
 // Offset plus length, as far as 64 bits hold it.
 fn end_of(offset: u64, len: u64) -> u64
@@ -17,7 +27,7 @@ fn end_of(offset: u64, len: u64) -> u64
 }
 
 // What a frame in a packet of this kind asks of the streams.
-pub fn view(kind: Kind, frame: Frame) -> View
+pub fn of_frame(kind: Kind, frame: Frame) -> View
     ensures { λ r. ⌜ r ≡ viewOf kind frame ⌝ }
 {
     match frame {

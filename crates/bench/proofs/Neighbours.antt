@@ -16,7 +16,7 @@ use Rattle.streams.specs.Entry.{finalOf, reached}
 use Rattle.streams.specs.Conn.{countOf}
 use Rattle.streams.specs.Opening.{limitsFit, openingOf}
 use Rattle.rules.specs.Rules.{rule1, rule2, rule3, rule4, rule5, endsOf}
-use Rattle.rules.specs.View.{endOf}
+use Rattle.views.specs.View.{endOf}
 use Rattle.rules.specs.Verdict.{verdictOf, connHeard, entryHeard, settledOf, judgedOf}
 use Rattle.limits.specs.Fits.{isFresh, entryFitsAs, openFit, connFits, sumTo, allTo, fits}
 use Rattle.steps.specs.Gate.{gateOf}
@@ -26,8 +26,8 @@ use Rattle.tables.specs.Table.{filledTo, openedTable}
 use Rattle.receive.specs.Walk.{decidedAt}
 use Rattle.receive.specs.Taking.{tookFrameOf, frameTable}
 use Rattle.accounts.specs.History.{creditOf, maySend, granted}
 use Rattle.demands.specs.Hosts.{hosted, kept}
-use Rattle.demands.specs.Neighbours.{Met, Suffers}
+use Rattle.bench.specs.Neighbours.{Met, Suffers}
 
 pub met : Met
 unfolding numberAt fieldAt valuesIn bigEndian shortest sizeOf formOf layouts layoutOf known admitted numbersAt optionalAt sizedAt countedAt rangedAt faultOf aboveOf frameOf endedAt partsAt fieldsAt headAt frameAt idOf listed placeOf finalOf reached countOf limitsFit openingOf rule1 rule2 rule3 rule4 rule5 endsOf endOf verdictOf connHeard entryHeard settledOf judgedOf isFresh entryFitsAs openFit connFits sumTo allTo fits gateOf openingWhen entriesOf requestOf requestAt decidedOf filledTo openedTable decidedAt tookFrameOf frameTable hosted kept creditOf maySend granted

@@ -1,10 +1,10 @@
--- `rules::views::place` meets its contract: only a frame with an end looks at the entry of its stream.
+-- `views::place` meets its contract: only a frame with an end looks at the entry of its stream.
 -- Assumes nothing.
 use borrow.Author.Needs.{needs}
 use mathlib.Core.Path.{_∙_}
-use Rattle.rules.proofs.Others.{elsewhere}
-use Rattle.rules.proofs.views.place.Statement.{statement}
-use Rattle.rules.proofs.views.place.Tie as tie
+use Rattle.views.proofs.Others.{elsewhere}
+use Rattle.views.proofs.place.Statement.{statement}
+use Rattle.views.proofs.place.Tie as tie
 
 returns : tie.Need-returns
 returns c = c .place-of .ensures ∙ rw (c .before .before .view .given .1)

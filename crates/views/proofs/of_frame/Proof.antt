@@ -1,10 +1,10 @@
--- `rules::views::view` meets its contract: each arm of the match is that of the definition; the rest asks nothing.
+-- `views::of_frame` meets its contract: each arm of the match is that of the definition; the rest asks nothing.
 -- Assumes nothing.
 use borrow.Author.Needs.{needs}
 use mathlib.Core.Path.{refl}
-use Rattle.rules.proofs.Others.{plain}
-use Rattle.rules.proofs.views.view.Statement.{statement}
-use Rattle.rules.proofs.views.view.Tie as tie
+use Rattle.views.proofs.Others.{plain}
+use Rattle.views.proofs.of_frame.Statement.{statement}
+use Rattle.views.proofs.of_frame.Tie as tie
 
 returns : tie.Need-returns
 returns c = rw (c .of .ensures, c .before .before .frame .given .1)
@@ -36,8 +36,8 @@ returns-9 c = rw (c .enum-told2 .given .1)
 returns-10 : tie.Need-returns-10
 returns-10 c = plain (c .before .args .kind) (c .before .args .frame) (c .match .keys10)
 
-pub view-spec : {M : Type 1} → statement M
-view-spec =
+pub of-frame-spec : {M : Type 1} → statement M
+of-frame-spec =
     tie.close
     (tie.spec
     (λ c. search needs)

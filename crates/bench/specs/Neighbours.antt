@@ -10,10 +10,10 @@ use Rattle.halves.specs.Stream.{entries}
 use Rattle.streams.specs.Entry.{fresh}
 use Rattle.streams.specs.Conn.{withCredit}
 use Rattle.streams.specs.Small.{small}
 use Rattle.demands.specs.Hosts.{Act, answered, hostAfter}
 use Rattle.demands.specs.Hosts.Act.{TakeFrame}
-use Rattle.demands.specs.Bench.{stream, final}
+use Rattle.bench.specs.Bench.{stream, final}
 use Rattle.demands.specs.Demand3.{Enough}
 
 -- one 1-RTT frame
 abbrev pub alone : List ℕ → Act

@@ -1,12 +1,12 @@
--- `rules::views::end_of` meets its contract: the sum is above 64 bits just where the offset is above what the length leaves.
+-- `views::end_of` meets its contract: the sum is above 64 bits just where the offset is above what the length leaves.
 -- Assumes nothing.
 use borrow.Author.Needs.{needs}
 use native.Mathlib.Omega.{arith}
 use Prim.Native.Nat.{_+_, _-_, _^_}
 use borrow.Author.Tests.{lt-ltb, le-ltb}
-use Rattle.rules.specs.View.{endOf}
-use Rattle.rules.proofs.views.end_of.Statement.{statement}
-use Rattle.rules.proofs.views.end_of.Tie as tie
+use Rattle.views.specs.View.{endOf}
+use Rattle.views.proofs.end_of.Statement.{statement}
+use Rattle.views.proofs.end_of.Tie as tie
 
 returns : tie.Need-returns
 unfolding endOf

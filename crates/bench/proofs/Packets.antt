@@ -8,7 +8,7 @@ use Rattle.records.specs.Marks.{recorded, noneOf, testOf, soundOf}
 use Rattle.records.specs.Ring.{wordOf, listOf, slotOf, ringOf, withMark, takenOf}
 use Rattle.packets.specs.First.{headerOf, sizeIn, reservedOf}
 use Rattle.packets.specs.Begin.{refusedOf, closesOf, testedOf, inSpaceOf}
-use Rattle.demands.specs.Packets.{Packets}
+use Rattle.bench.specs.Packets.{Packets}
 
 pub packets : Packets
 unfolding bigEndian nearestOf recoveredOf bit bitAt recorded noneOf testOf unmarked soundOf wordOf listOf slotOf ringOf withMark takenOf headerOf sizeIn reservedOf refusedOf closesOf testedOf inSpaceOf
