@@ -1,14 +1,14 @@
 -- The contract of every function that other crates can call is firm: it asks nothing and is an equation of the answer.
 -- Assumes nothing.
-use mathlib.Core.Path.{sym, _∙_}
 use Rattle.answers.specs.Firm.{FirmAnswer}
+use Rattle.answers.proofs.Firm.{equation}
 use Rattle.packets.proofs.checks.begin.Kinds as begin
 use Rattle.packets.proofs.checks.begin.Reads as begin-reads
 use Rattle.packets.proofs.checks.finish.Kinds as finish
 use Rattle.packets.proofs.checks.finish.Reads as finish-reads
 
 pub begin-firm : FirmAnswer 1 begin.ps begin.r begin-reads.Asked begin-reads.Post
-begin-firm = record { asks-nothing = λ κs a. tt; one-outcome = λ κs a x y s t p q. p ∙ sym q }
+begin-firm = equation
 
 pub finish-firm : FirmAnswer 0 finish.ps finish.r finish-reads.Asked finish-reads.Post
-finish-firm = record { asks-nothing = λ κs a. tt; one-outcome = λ κs a x y s t p q. p ∙ sym q }
+finish-firm = equation
