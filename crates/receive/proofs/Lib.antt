@@ -1,13 +1,5 @@
-pub mod BeginCall
 pub mod Begins
-pub mod FitsCall
 pub mod Long
-pub mod OpenCall
 pub mod Padding
-pub mod PastCall
-pub mod RequestCall
-pub mod ShowCall
-pub mod StepCall
 pub mod Steps
 pub mod Unique
-pub mod WalkCall

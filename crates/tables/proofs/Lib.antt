@@ -1,11 +1,8 @@
 pub mod Calls
 pub mod Cases
-pub mod FillCall
+pub mod Handed
 pub mod Leave
 pub mod Lent
-pub mod PartCall
-pub mod Plain
-pub mod RestCall
 pub mod Tables
 pub mod Unique
 pub mod Unopened

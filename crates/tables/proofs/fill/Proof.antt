@@ -1,6 +1,5 @@
 -- `tables::fill` meets its contract: the loop holds the table with the entries so far set. The table is opened once, before the loop, and closed after it.
 -- Assumes nothing.
-use Rattle.tables.proofs.Plain.{calls-fn}
 use mathlib.Core.Path.{_≡_, refl, sym, ap, subst, _∙_}
 use Prim.Native.Nat.{ℕ, _+_, _-_, _*_, _≤_, _<_, _^_}
 use native.Mathlib.Omega.{arith}
@@ -72,6 +71,7 @@ use Rattle.steps.proofs.opening.entry.Symbol.{name as #entry}
 use Rattle.steps.proofs.opening.entry.Met as entry-thm
 use Rattle.tables.proofs.Lent.{vals}
 use Rattle.steps.proofs.opening.entry as entry-fn
+use Rattle.tables.proofs.Handed.{calls-fn}
 
 abbrev stayed : Stays (f.ended .signature .params) (f.ended .kept)
 stayed = (stay-slice (0 ∷ []) tt (plain (λ _. TEntry.the-row)), (stay-none (λ _. usize) yes, (stay-none (λ _. TLimits.the-row) yes, tt)))

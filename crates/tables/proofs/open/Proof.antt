@@ -1,6 +1,5 @@
 -- `tables::open` meets its contract: the connection is opened as ruled, and as many entries are set as it says.
 -- Assumes nothing.
-use Rattle.tables.proofs.Plain.{calls-fn}
 use mathlib.Core.Path.{_≡_, refl, sym, ap, subst}
 use Prim.Native.Nat.{ℕ}
 use mathlib.Core.List.{List, [], _∷_}
@@ -16,7 +15,7 @@ use prog.Memory.{Memory}
 use prog.Routine.{Routine}
 use prog.Wp.{Heap, Env, Calls, Loops, WpFn, Tables}
 use ghost.Atoms.{Atoms}
-use contract.Monad.{Fun}
+use contract.Monad.{Fun, factI, fact-mono}
 use contract.Running.{givenOf, tables, tablesOf}
 use types.Kit.{Given, Item, ‵, _⊛_, ⋆, Sq, runs, atRet, _$_, _∵_, !, qed, by, move, keep, drop, split, join, fsplit, fjoin, suffices, frame, done}
 use types.Part.{whole, sub, look-in, agg}
@@ -26,7 +25,7 @@ use denote.RattleType.{owns}
 use denote.Shadow.{pureI}
 use denote.Laws.{Is}
 use denote.Memory.{pointee}
-use denote.Plain.{uint-makes, uint-vals, uint-tells}
+use denote.Plain.{uint-makes, uint-vals, uint-tells, Nothing, nothing-vals, nothing-tells}
 use denote.Ref.{RefT, now}
 use denote.Slice.{sliceTy, sliceVal, MutSlice, Room, slice-vals, mut-slice-tells, heres, codedHoleys, at-slice}
 use denote.Lend.{Held}
@@ -46,14 +45,13 @@ use Rattle.streams.proofs.Limits.Laws as TLimits′
 use Rattle.steps.specs.Opening.{openingWhen, entriesOf}
 use Rattle.tables.proofs.Leave.{stand, leaves}
 use Rattle.tables.specs.Table.{filledTo, openedTable}
-use Rattle.tables.proofs.Lent.{calls-lent-mut, vals}
+use Rattle.tables.proofs.Lent.{vals, ref}
 use Rattle.tables.proofs.Tables.{entries-within}
 use Rattle.streams.specs.declared.Opened.{Opened}
 use Rattle.streams.proofs.Opened as TOpened
 use Rattle.streams.proofs.Opened.Laws as TOpened′
 use Rattle.streams.specs.declared.Entry.{Entry}
 use Rattle.streams.proofs.Entry as TEntry
-use Rattle.tables.proofs.FillCall.{Fill, to-fill, Did-fill, goes-fill, gave-fill}
 use Rattle.tables.proofs.open.Key.{name as #f}
 use Rattle.tables.proofs.open as f
 use Rattle.tables.proofs.open.Statement as stated
@@ -73,11 +71,17 @@ use Rattle.answers.proofs.Answer as TAnswer
 use Rattle.answers.proofs.Answer.Laws as TAnswer′
 use Rattle.steps.proofs.opening.entries as entries-fn
 use Rattle.steps.proofs.opening.open as opening-fn
+use Rattle.tables.proofs.Handed.{lends-mut-fn, calls-fn}
+use Rattle.tables.proofs.fill as fill-fn
+use mathlib.Core.Bool.{true}
 
 abbrev stayed : Stays (f.ended .signature .params) (f.ended .kept)
 stayed = (stay-slice (0 ∷ []) tt (plain (λ _. TEntry.the-row)), (stay-none (λ _. TLimits.the-row) yes, tt))
 
 module _ {M : Type 1} (𝓤 : URA M) (H : Heap 𝓤) (A : Atoms 𝓤) (mem : Memory → SProp 𝓤) (run : Routine → Fun 𝓤) where
+  abbrev Fill : Contract 𝓤
+  Fill = tripleOf 𝓤 H A fill-fn.signature (fill-fn.spec 𝓤 H A mem run)
+
   abbrev Entries : Contract 𝓤
   Entries = tripleOf 𝓤 H A entries-fn.signature (entries-fn.spec 𝓤 H A mem run)
 
@@ -145,7 +149,7 @@ module _ {M : Type 1} (𝓤 : URA M) (H : Heap 𝓤) (A : Atoms 𝓤) (W : Given
           (and-then ! (load ! (from ! (fld ! refl (stop !))) (look-in ! 15 (sub ! 0 refl (whole !)))) (no-more !)) (λ gk. land ! (from ! (stop !)) (init ! 12 refl (tt, record { fits = gk .1 })) $
           assigns ! (addr ! (from ! (fld ! refl (hop ! (look-in ! 18 (sub ! 0 refl (whole !))) (stop !))))) (from ! (stop !)) (init ! 6 refl (tt, tt)) $
           assigns ! (agg ! (and-then ! (load ! (from ! (stop !)) (look ! 6 refl)) (and-then ! (load ! (from ! (fld ! refl (stop !))) (look-in ! 18 (sub ! 1 refl (whole !)))) (no-more !)))) (from ! (stop !)) (init ! 4 refl (tt, (tt, (record { fits = gn .0 }, tt)))) $
-          calls-lent-mut ! fm (Fill 𝓤 H A mem run) known-fill TEntry.the-row ys b o gn (named 0) (to-fill 𝓤 H A mem run ys b o n₀ limits) (goes-fill 𝓤 H A mem run ys b o n₀ limits W (entries-within (length ys) limits) (gk .1) glimits) (vunit) zs₀ (Did-fill 𝓤 H A mem run ys b o n₀ limits) (gave-fill 𝓤 H A mem run ys b o n₀ limits W)
+          lends-mut-fn ! fm fill-fn.ended (fill-fn.clauses 𝓤 H A mem run) known-fill TEntry.the-row ys b o gn (named 0) (λ ν γ. (((ν ∷ [], tt), (fullShare, tt), tt, (ref TEntry.the-row ys b o γ, (n₀, (limits, tt))), (vals TEntry.the-row ys b o, (vint w64 n₀ ∷ [], (LL.val TLimits.the-type TLimits′.the-laws limits ∷ [], tt)))), tt)) (true ∷ []) (λ ν γ. (refl, refl)) (λ ν γ. (uint-makes 𝓤 H A W w64 n₀ _ (refl, gk .1), (LL.makes TLimits.the-type TLimits′.the-plain 𝓤 H A limits _ glimits, tt))) (λ ν γ. (factI 𝓤 _ (emp 𝓤) (entries-within (length ys) limits))) (λ ν γ. tt) (λ ν γ. nothing-vals) (λ ν γ. nothing-tells) (vunit) (Is Nothing tt (vunit ∷ [])) (λ ν γ v g. g) (filledTo n₀ ys limits) 0 (λ ν γ ws. ws .0) (λ ν γ ws. refl) (λ ν γ r ws. fact-mono 𝓤 (ws .0 ≡ filledTo n₀ ys limits) ((r ≡ tt) × (ws .0 ≡ filledTo n₀ ys limits)) (λ h. (refl, h)))
           (λ ν δ. (and-then ! (load ! (from ! (stop !)) (look ! 5 refl)) (and-then ! (load ! (from ! (stop !)) (look ! 13 refl)) (and-then ! (load ! (from ! (stop !)) (look ! 17 refl)) (no-more !))))) (λ el gu. land ! (from ! (stop !)) (init ! 8 refl (tt, tt)) $
           assigns ! (of-opd ! (load ! (from ! (stop !)) (look ! 14 refl))) (from ! (stop !)) (init ! 20 refl (LL.lawful TOpened.the-type TOpened′.the-laws 𝓤 H A W .typed out _ go .0)) $
           closes-slice ! tt TEntry.the-row ys zs₀ el b o $

@@ -1,6 +1,5 @@
 -- `tables::rest` meets its contract: the loop holds whether the entries so far are as opening sets them. The table is looked into once, before the loop, and shut after it.
 -- Assumes nothing.
-use Rattle.tables.proofs.Plain.{calls-fn}
 use mathlib.Core.Path.{_≡_, refl, sym, ap, _∙_}
 use Prim.Native.Nat.{ℕ, _+_, _-_, _*_, _≤_, _<_, _^_}
 use native.Mathlib.Omega.{arith}
@@ -67,6 +66,7 @@ use Rattle.limits.proofs.rest.untouched.Symbol as same-def
 use Rattle.limits.proofs.rest.untouched.Symbol.{name as #same}
 use Rattle.limits.proofs.rest.untouched.Met as same-thm
 use Rattle.limits.proofs.rest.untouched as same-fn
+use Rattle.tables.proofs.Handed.{calls-fn}
 
 abbrev stayed : Stays (f.ended .signature .params) (f.ended .kept)
 stayed = (stay-none-slice (0 ∷ []) tt (plain (λ _. TEntry.the-row)) yes, (stay-none (λ _. usize) yes, (stay-none (λ _. u64) yes, (stay-none (λ _. u64) yes, tt))))

@@ -1,8 +1,7 @@
 -- `receive::step::step` meets its contract: what the frame asks names the place of its entry, which is taken out, judged and put back.
 -- Assumes nothing.
-use Rattle.tables.proofs.Plain.{calls-fn}
 use mathlib.Core.Path.{_≡_, refl, sym, ap, subst}
-use Prim.Native.Nat.{ℕ, _-_, _*_, _<_, _^_}
+use Prim.Native.Nat.{ℕ, _*_, _<_, _^_}
 use native.Mathlib.Omega.{arith}
 use mathlib.Core.List.{List, [], _∷_}
 use lib.ListN.{length, set, length-set}
@@ -46,7 +45,6 @@ use Rattle.streams.specs.Entry.{fresh, entryAt}
 use Rattle.steps.specs.Step.{requestAt, decidedOf}
 use Rattle.tables.proofs.Leave.{leaves}
 use Rattle.receive.specs.Walk.{decidedAt, steppedAt, stepTable}
-use Rattle.tables.proofs.Calls.{calls-given}
 use Rattle.receive.proofs.Steps.{place-low}
 use Rattle.streams.specs.declared.Conn.{Conn}
 use Rattle.streams.proofs.Conn as TConn
@@ -66,7 +64,6 @@ use Rattle.steps.proofs.Decided.Laws as TDecided′
 use Rattle.streams.specs.declared.Entry.{Entry}
 use Rattle.streams.proofs.Entry as TEntry
 use Rattle.streams.proofs.Entry.Laws as TEntry′
-use Rattle.receive.proofs.RequestCall.{Ask, Took-request, to-request, Did-request, goes-request, gave-request}
 use Rattle.receive.proofs.step.step.Key.{name as #f}
 use Rattle.receive.proofs.step.step as f
 use Rattle.receive.proofs.step.step.Statement as stated
@@ -78,13 +75,19 @@ use Rattle.steps.proofs.frame.request.Met as request-thm
 use Rattle.steps.proofs.frame.decide.Symbol as decide-def
 use Rattle.steps.proofs.frame.decide.Symbol.{name as #decide}
 use Rattle.steps.proofs.frame.decide.Met as decide-thm
-use Rattle.tables.proofs.Lent.{vals}
+use Rattle.tables.proofs.Lent.{vals, ref}
 use Rattle.steps.proofs.frame.decide as decide-fn
+use Rattle.tables.proofs.Handed.{gives-fn, calls-fn}
+use Rattle.steps.proofs.frame.request as request-fn
+use mathlib.Core.Bool.{true}
 
 abbrev stayed : Stays (f.ended .signature .params) (f.ended .kept)
 stayed = (stay-none (λ _. TConn.the-row) yes, (stay-slice (0 ∷ []) tt (plain (λ _. TEntry.the-row)), (stay-none-slice (1 ∷ []) tt (plain (λ _. u8)) yes, (stay-none (λ _. usize) yes, (stay-none (λ _. TKind.the-row) yes, tt)))))
 
 module _ {M : Type 1} (𝓤 : URA M) (H : Heap 𝓤) (A : Atoms 𝓤) (mem : Memory → SProp 𝓤) (run : Routine → Fun 𝓤) where
+  abbrev Ask : Contract 𝓤
+  Ask = tripleOf 𝓤 H A request-fn.signature (request-fn.spec 𝓤 H A mem run)
+
   abbrev Turn : Contract 𝓤
   Turn = tripleOf 𝓤 H A decide-fn.signature (decide-fn.spec 𝓤 H A mem run)
 
@@ -155,7 +158,7 @@ module _ {M : Type 1} (𝓤 : URA M) (H : Heap 𝓤) (A : Atoms 𝓤) (W : Given
           split ! $
           move ! (6 ∷ 0 ∷ []) $
           fjoin ! $
-          calls-given ! fm (Ask 𝓤 H A mem run) known-request (Took-request 𝓤 H A mem run κ₂ q₂ γ₂ bs b₂ o₂ p kind) (flft κ₂ q₂) (to-request 𝓤 H A mem run κ₂ q₂ γ₂ bs b₂ o₂ p kind) (goes-request 𝓤 H A mem run κ₂ q₂ γ₂ bs b₂ o₂ p kind W gp gkind) (LL.val TRequest.the-type TRequest′.the-laws a₀) (Did-request 𝓤 H A mem run κ₂ q₂ γ₂ bs b₂ o₂ p kind) (gave-request 𝓤 H A mem run κ₂ q₂ γ₂ bs b₂ o₂ p kind W)
+          gives-fn ! fm request-fn.ended (request-fn.clauses 𝓤 H A mem run) known-request (((κ₂, tt), (q₂, tt), tt, (ref u8 bs b₂ o₂ γ₂, (p, (kind, tt))), (vals u8 bs b₂ o₂, (vint w64 p ∷ [], (EL.val TKind.the-type TKind′.the-laws kind ∷ [], tt)))), tt) (true ∷ []) κ₂ q₂ (ShrSlice (named 0) κ₂ u8 .own (ref u8 bs b₂ o₂ γ₂) (vals u8 bs b₂ o₂)) (refl, refl) (uint-makes 𝓤 H A W w64 p _ (refl, gp), (EL.makes TKind.the-type TKind′.the-plain 𝓤 H A kind _ gkind, tt)) (id⊢ 𝓤 _) (requestAt bs p kind) (LL.vals TRequest.the-type TRequest′.the-laws) (LL.tells TRequest.the-type TRequest′.the-laws) (λ r ws. id⊢ 𝓤 _)
           (and-then ! (load ! (from ! (stop !)) (look ! 24 refl)) (and-then ! (load ! (from ! (stop !)) (look ! 22 refl)) (and-then ! (load ! (from ! (stop !)) (look ! 20 refl)) (no-more !)))) (λ ga. land ! (from ! (stop !)) (init ! 18 refl (LL.lawful TRequest.the-type TRequest′.the-laws 𝓤 H A W .typed a₀ _ ga .0)) $
           assigns ! (of-opd ! (load ! (from ! (fld ! refl (stop !))) (look-in ! 18 (sub ! 0 refl (whole !))))) (from ! (stop !)) (init ! 16 refl (tt, record { fits = gi ga })) $
           assigns ! (bin ! (load ! (from ! (stop !)) (look ! 16 refl)) (lit ! tt) (record { fits = bytes })) (from ! (stop !)) (init ! 12 refl (tt, record { fits = bytes })) $
@@ -184,7 +187,7 @@ module _ {M : Type 1} (𝓤 : URA M) (H : Heap 𝓤) (A : Atoms 𝓤) (W : Given
           bytes : i₀ * 24 < 2 ^ 64
           bytes = let h : length ys * 24 < 2 ^ 63 = gn .1 in omega arith
 
-          gi : Did-request 𝓤 H A mem run κ₂ q₂ γ₂ bs b₂ o₂ p kind → i₀ < 2 ^ 64
+          gi : Is TRequest.the-row (requestAt bs p kind) (LL.val TRequest.the-type TRequest′.the-laws (requestAt bs p kind) ∷ []) → i₀ < 2 ^ 64
           gi ga = LL.owed TRequest.the-type TRequest′.the-laws a₀ _ ga .0 .1
 
           gx : Is TDecided.the-row new (LL.val TDecided.the-type TDecided′.the-laws new ∷ []) → Is TEntry.the-row (new .entry) (LL.val TEntry.the-type TEntry′.the-laws (new .entry) ∷ [])
