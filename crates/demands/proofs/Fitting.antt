@@ -57,9 +57,9 @@ use Rattle.steps.specs.Step.{requestOf, requestAt, decidedOf}
 use Rattle.packets.specs.Begin as begin
 use Rattle.packets.specs.Finish.{finishOf}
 use Rattle.steps.specs.Gate.{gateOf}
-use Rattle.receive.specs.Walk.{decidedAt, steppedAt, Walked, walkFrom}
+use Rattle.walks.specs.Walk.{decidedAt, steppedAt, Walked, walkFrom}
 use Rattle.receive.specs.Taking.{gateAt, tookFrameOf, begunOf, tookOf}
-use Rattle.receive.specs.Calling.{callPlace, calledAt}
+use Rattle.local.specs.Calling.{callPlace, calledAt}
 use Rattle.demands.specs.Hosts.{Host, Act, answered, acted, kept, hosted}
 use Rattle.demands.specs.Hosts.Act.{TakeFrame, TakePacket, Make, HandOut}
 use Rattle.demands.proofs.Begins.{Begins, begins}

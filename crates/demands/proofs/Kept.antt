@@ -14,7 +14,7 @@ use Rattle.calls.specs.declared.Call.{Call}
 use Rattle.calls.specs.declared.Call.the-variants.{RaiseCredit, RaiseCount, OpenNext}
 use Rattle.calls.specs.declared.Replied.{Replied}
 use Rattle.calls.specs.Calls.{entryCalled, replyOf, settledOf, ruledOf, repliedOf}
-use Rattle.receive.specs.Calling.{callPlace, calledTable}
+use Rattle.local.specs.Calling.{callPlace, calledTable}
 use Rattle.demands.specs.Kept.{TableKept}
 use Rattle.demands.proofs.Lifted.{same-table}
 

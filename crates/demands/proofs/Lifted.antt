@@ -55,10 +55,10 @@ use Rattle.steps.specs.declared.Decided.{Decided}
 use Rattle.steps.specs.Gate.{gateOf}
 use Rattle.steps.specs.Opening.{openingWhen, entriesOf}
 use Rattle.steps.specs.Step.{requestOf, requestAt, decidedOf}
-use Rattle.tables.specs.Table.{filledTo, openedTable}
-use Rattle.receive.specs.Walk.{decidedAt, steppedAt, stepTable, stepHeard, stopped, Walked, ahead, walkFrom, walkAll}
+use Rattle.local.specs.Table.{filledTo, openedTable}
+use Rattle.walks.specs.Walk.{decidedAt, steppedAt, stepTable, stepHeard, stopped, Walked, ahead, walkFrom, walkAll}
 use Rattle.receive.specs.Taking.{gateAt, tookFrameOf, frameTable, begunOf, tookOf, tookTable}
-use Rattle.receive.specs.Calling.{callPlace, calledAt, calledTable}
+use Rattle.local.specs.Calling.{callPlace, calledAt, calledTable}
 use Rattle.accounts.specs.History.{Event, looksAt, ruledOf, connAfter, entryAfter, State, answerOf, after, listTo, opened, WasOpened, stateOf, AllAccepted}
 use Rattle.accounts.specs.History.Event.{Got as Heard, Did, Gave}
 use Rattle.accounts.proofs.Tests.{and-no, not-both}

@@ -42,7 +42,7 @@ use Rattle.packets.specs.Begin.{refusedOf, closesOf}
 use Rattle.steps.specs.declared.TookFrame.{TookFrame}
 use Rattle.steps.specs.Gate.{gateOf}
 use Rattle.steps.specs.Step.{requestOf, requestAt, decidedOf}
-use Rattle.receive.specs.Walk.{decidedAt, Walked, walkFrom, walkAll}
+use Rattle.walks.specs.Walk.{decidedAt, Walked, walkFrom, walkAll}
 use Rattle.receive.specs.Taking.{gateAt, tookFrameOf, begunOf, tookOf}
 use Rattle.accounts.specs.History.{Event, ruledOf, State, answerOf, stateOf, own, creditOf, maySend, granted, ruling}
 use Rattle.accounts.specs.History.Event.{Got as Heard}

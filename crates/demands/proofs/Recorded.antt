@@ -38,7 +38,7 @@ use Rattle.packets.specs.Spaces.{recordOf, withRecord, recordsFit, recordedOf}
 use Rattle.packets.specs.Begin.{refusedOf, closesOf, testedOf, withRecovered, inSpaceOf, withKind, beginOf}
 use Rattle.packets.specs.Finish.{finishOf}
 use Rattle.receive.specs.Taking.{begunOf, tookOf}
-use Rattle.receive.specs.Walk.{stoppedOf}
+use Rattle.walks.specs.Walk.{stoppedOf}
 use Rattle.demands.specs.Recorded.{NumberRecorded}
 
 -- records that fit, each of them

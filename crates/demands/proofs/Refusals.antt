@@ -43,8 +43,8 @@ use Rattle.steps.specs.declared.TookFrame.{TookFrame}
 use Rattle.steps.specs.Step.{requestOf, requestAt, decidedOf, shownAt}
 use Rattle.packets.specs.Begin as begin
 use Rattle.packets.specs.Finish.{tookAs, finishOf}
-use Rattle.receive.specs.Walk.{decidedAt, Walked, walkAll}
-use Rattle.receive.specs.Calling.{callPlace, calledAt, calledTable}
+use Rattle.walks.specs.Walk.{decidedAt, Walked, walkAll}
+use Rattle.local.specs.Calling.{callPlace, calledAt, calledTable}
 use Rattle.receive.specs.Taking.{gateAt, tookFrameOf, frameTable, begunOf, tookOf, tookTable}
 use Rattle.demands.specs.Hosts.{Host, withConn, withBoth, stateIn}
 use Rattle.demands.specs.Demand1.{Left, Demand1}

@@ -15,7 +15,7 @@ use Rattle.streams.specs.declared.Limits.{Limits}
 use Rattle.views.specs.declared.View.{View}
 use Rattle.views.specs.View.{viewOf}
 use Rattle.packets.specs.declared.Begun.{Begun}
-use Rattle.receive.specs.Walk.{stepHeard, walkAll}
+use Rattle.walks.specs.Walk.{stepHeard, walkAll}
 use Rattle.receive.specs.Taking.{gateAt, begunOf}
 use Rattle.accounts.specs.History.{Event}
 use Rattle.accounts.specs.History.Event.{Got as Heard, Did, Gave}

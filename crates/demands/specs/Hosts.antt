@@ -15,9 +15,9 @@ use Rattle.streams.specs.Conn.{handedOutOf}
 use Rattle.calls.specs.declared.Call.{Call}
 use Rattle.packets.specs.declared.Records.{Records}
 use Rattle.steps.specs.Opening.{openingWhen}
-use Rattle.tables.specs.Table.{openedTable}
+use Rattle.local.specs.Table.{openedTable}
 use Rattle.receive.specs.Taking.{tookFrameOf, frameTable, tookOf, tookTable}
-use Rattle.receive.specs.Calling.{calledAt, calledTable}
+use Rattle.local.specs.Calling.{calledAt, calledTable}
 use Rattle.accounts.specs.History.{State}
 
 -- what a host keeps of a connection, and hands in at each call

@@ -5,7 +5,7 @@ use mathlib.Core.List.{List}
 use Rattle.streams.specs.declared.Conn.{Conn}
 use Rattle.streams.specs.declared.Entry.{Entry}
 use Rattle.calls.specs.declared.Call.the-variants.{RaiseCredit, RaiseCount, OpenNext}
-use Rattle.receive.specs.Calling.{calledTable}
+use Rattle.local.specs.Calling.{calledTable}
 
 pub record TableKept (c : Conn) (t : List Entry) : Type 0 where
   pub raise-credit : (new : ℕ) → calledTable c t (RaiseCredit new) ≡ t

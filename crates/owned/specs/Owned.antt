@@ -9,9 +9,9 @@ use Rattle.streams.specs.declared.Limits.{Limits}
 use Rattle.calls.specs.declared.Call.{Call}
 use Rattle.packets.specs.declared.Records.{Records}
 use Rattle.steps.specs.Opening.{openingWhen}
-use Rattle.tables.specs.Table.{openedTable}
+use Rattle.local.specs.Table.{openedTable}
 use Rattle.receive.specs.Taking.{tookFrameOf, frameTable, tookOf, tookTable}
-use Rattle.receive.specs.Calling.{calledAt, calledTable}
+use Rattle.local.specs.Calling.{calledAt, calledTable}
 use Rattle.owned.specs.declared.OwnedOpened.{OwnedOpened}
 use Rattle.owned.specs.declared.OwnedFrame.{OwnedFrame}
 use Rattle.owned.specs.declared.OwnedPacket.{OwnedPacket}

@@ -51,7 +51,7 @@ pub fn open(table: [Entry; Conn::ENTRIES], limits: Limits) -> OwnedOpened
     ensures { λ r. ⌜ r ≡ ownedOpenedOf table limits ⌝ }
 {
     let mut t = table;
-    let opened = receive::open(&mut t, limits);
+    let opened = local::open(&mut t, limits);
     OwnedOpened { opened, table: t }
 }
 
@@ -87,6 +87,6 @@ pub fn call(c: Conn, table: [Entry; Conn::ENTRIES], call: Call) -> OwnedCall
     ensures { λ r. ⌜ r ≡ ownedCallOf c table call ⌝ }
 {
     let mut t = table;
-    let called = receive::call(c, &mut t, call);
+    let called = local::call(c, &mut t, call);
     OwnedCall { called, table: t }
 }

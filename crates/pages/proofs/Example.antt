@@ -31,8 +31,8 @@ use Rattle.limits.specs.Fits.{isFresh, entryFitsAs, openFit, connFits, sumTo, a
 use Rattle.steps.specs.Gate.{gateOf}
 use Rattle.steps.specs.Opening.{openingWhen, entriesOf}
 use Rattle.steps.specs.Step.{requestOf, requestAt, decidedOf, shownOf, shownAt}
-use Rattle.tables.specs.Table.{filledTo, openedTable}
-use Rattle.receive.specs.Walk.{decidedAt}
+use Rattle.local.specs.Table.{filledTo, openedTable}
+use Rattle.walks.specs.Walk.{decidedAt}
 use Rattle.receive.specs.Taking.{tookFrameOf, frameTable}
 
 -- a page before its first row

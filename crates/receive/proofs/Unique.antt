@@ -9,32 +9,17 @@ use prog.Memory.{Memory}
 use prog.Routine.{Routine}
 use prog.Wp.{Heap}
 use denote.Ref.{now}
-use Rattle.answers.specs.Firm.{FirmAnswer, FirmClauses}
+use Rattle.answers.specs.Firm.{FirmClauses}
 use Rattle.answers.proofs.Firm.{equation, clauses-equations}
-use Rattle.streams.specs.declared.Called.{Called}
 use Rattle.streams.specs.declared.Entry.{Entry}
-use Rattle.streams.specs.declared.Opened.{Opened}
 use Rattle.packets.specs.declared.Took.{Took}
 use Rattle.steps.specs.declared.TookFrame.{TookFrame}
-use Rattle.receive.proofs.open as opening
 use Rattle.receive.proofs.take_frame as take-frame
 use Rattle.receive.proofs.take_packet as take-packet
-use Rattle.receive.proofs.call as calling
-use Rattle.receive.proofs.hand_out.Kinds as hand-out
-use Rattle.receive.proofs.hand_out.Reads as hand-out-reads
-
-pub hand-out-firm : FirmAnswer 0 hand-out.ps hand-out.r hand-out-reads.Asked hand-out-reads.Post
-hand-out-firm = equation
 
 module _ {M : Type 1} (𝓤 : URA M) (H : Heap 𝓤) (A : Atoms 𝓤) (mem : Memory → SProp 𝓤) (run : Routine → Fun 𝓤) where
-  pub open-firm : FirmClauses 𝓤 opening.ended (opening.clauses 𝓤 H A mem run) (λ κs. Opened × List Entry) (λ κs x s. (x, now (s .0)))
-  open-firm = clauses-equations
-
   pub take-frame-firm : FirmClauses 𝓤 take-frame.ended (take-frame.clauses 𝓤 H A mem run) (λ κs. TookFrame × List Entry) (λ κs x s. (x, now (s .1 .0)))
   take-frame-firm = clauses-equations
 
   pub take-packet-firm : FirmClauses 𝓤 take-packet.ended (take-packet.clauses 𝓤 H A mem run) (λ κs. Took × List Entry) (λ κs x s. (x, now (s .1 .1 .0)))
   take-packet-firm = clauses-equations
-
-  pub call-firm : FirmClauses 𝓤 calling.ended (calling.clauses 𝓤 H A mem run) (λ κs. Called × List Entry) (λ κs x s. (x, now (s .1 .0)))
-  call-firm = clauses-equations

@@ -16,7 +16,7 @@ use Rattle.packets.specs.Begin.{beginOf}
 use Rattle.packets.specs.Finish.{finishOf}
 use Rattle.steps.specs.Gate.{gateOf}
 use Rattle.steps.specs.Step.{shownAt}
-use Rattle.receive.specs.Walk.{steppedAt, stepTable, stoppedOf, walkTable}
+use Rattle.walks.specs.Walk.{steppedAt, stepTable, stoppedOf, walkTable}
 
 -- "A call for one frame (120, 101, then as above) also hands the frame as read to the caller"
 abbrev pub gateAt : Conn → List Entry → Gate

@@ -232,7 +232,7 @@ fn on(now: Session, within: Within, s: &[u8], out: &mut [u8; 16384]) -> Ran {
     match within {
         Within::Packet { first, count } => packet(c, records, table, first, s, count, out),
         Within::Frame { kind, count } => frame(c, records, table, kind, s, count, out),
-        Within::Hand { space } => numbered(receive::hand_out(c, space), records, table, out),
+        Within::Hand { space } => numbered(local::hand_out(c, space), records, table, out),
         Within::Make { call } => make(c, records, table, call, out),
         Within::Ack { space, delay, room } => Ran {
             session: now,

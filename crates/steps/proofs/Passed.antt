@@ -10,19 +10,19 @@ use lib.ListN.{length, getD}
 use borrow.Author.Tests.{lt-ltb, eq-eqb, ne-eqb, ltb-true, eqb-true}
 use lib.Dec.{ltb, eqb}
 use Rattle.answers.proofs.Choice.{holds, below-or-not}
-use Rattle.steps.specs.Past.{pastOf, pastPadding}
+use Rattle.steps.specs.Past.{pastOf, pastZeros}
 
 module _ (s : List ℕ) where
   -- a zero byte is passed
-  pub pass : (i : ℕ) → i < length s → getD s i 0 ≡ 0 → pastPadding s (i + 1) ≡ pastPadding s i
-  unfolding pastPadding pastOf
+  pub pass : (i : ℕ) → i < length s → getD s i 0 ≡ 0 → pastZeros s (i + 1) ≡ pastZeros s i
+  unfolding pastZeros pastOf
   pass i h e =
       let k : length s - i ≡ suc (length s - (i + 1)) = omega arith in
       rw (k, lt-ltb i (length s) h, eq-eqb (getD s i 0) 0 e) (ap (pastOf s (length s - (i + 1))) (add-one i))
 
   -- another byte is not
-  pub stay : (i : ℕ) → (getD s i 0 ≡ 0 → ⊥) → i ≡ pastPadding s i
-  unfolding pastPadding pastOf
+  pub stay : (i : ℕ) → (getD s i 0 ≡ 0 → ⊥) → i ≡ pastZeros s i
+  unfolding pastZeros pastOf
   stay i n = go (length s - i)
     where
       go : (k : ℕ) → i ≡ pastOf s k i
@@ -30,8 +30,8 @@ module _ (s : List ℕ) where
       go (suc k) = rw (ne-eqb (getD s i 0) 0 n, and-false)
 
   -- nor is the end
-  pub ended : (i : ℕ) → length s ≤ i → i ≡ pastPadding s i
-  unfolding pastPadding pastOf
+  pub ended : (i : ℕ) → length s ≤ i → i ≡ pastZeros s i
+  unfolding pastZeros pastOf
   ended i h = let k : length s - i ≡ 0 = omega arith in rw k
 
 -- the way from a place to the place r after it: every byte that is passed is there and is zero, and the one at r, if there is one, is not
@@ -64,6 +64,6 @@ module _ (s : List ℕ) where
       (λ e. let b = and-eq-true-iff (ltb at (length s)) (eqb (getD s at 0) 0) .0 e in one at (pastOf s k (suc at)) (ltb-true _ _ (b .0)) (eqb-true _ _ (b .1)) (steps k (suc at) (omega arith)))
       (λ e. none at (λ l z. true≢false (sym (rw (lt-ltb at (length s) l, eq-eqb (getD s at 0) 0 z) refl) ∙ e)))
 
-  pub passed : (at : ℕ) → Passed s at (pastPadding s at)
-  unfolding pastPadding
+  pub passed : (at : ℕ) → Passed s at (pastZeros s at)
+  unfolding pastZeros
   passed at = steps (length s - at) at (omega arith)

@@ -1,6 +1,6 @@
--- Past PADDING: the first place from a place on that does not hold a zero byte.
+-- Past PADDING: the first place from a place on that does not hold a zero byte, while the connection is open.
 use Prim.Native.Nat.{ℕ, zero, suc, _-_}
-use mathlib.Core.Bool.{_&&_}
+use mathlib.Core.Bool.{Bool, _&&_}
 use mathlib.Core.List.{List}
 use lib.ListN.{length, getD}
 use lib.Dec.{ltb, eqb}
@@ -13,5 +13,11 @@ pastOf s (suc k) at =
     (ltb at (length s) && eqb (getD s at 0) 0) ⇒ pastOf s k (suc at)
     ∣ at
 
-unfoldable pub pastPadding : List ℕ → ℕ → ℕ
-pastPadding s at = pastOf s (length s - at) at
+unfoldable pub pastZeros : List ℕ → ℕ → ℕ
+pastZeros s at = pastOf s (length s - at) at
+
+-- PADDING changes nothing, so that a walk on an open connection may pass it; on a closed one it stops at its first frame
+unfoldable pub pastPadding : Bool → List ℕ → ℕ → ℕ
+pastPadding still-open s at =
+    still-open ⇒ pastZeros s at
+    ∣ at

@@ -2,6 +2,7 @@
 ghost use mathlib.Core.Path.{_≡_};
 ghost use Rattle.steps.specs.Step.{requestOf, requestAt, decidedAs, decidedOf, shownAt};
 ghost use Rattle.steps.specs.Past.{pastPadding};
+ghost use Rattle.streams.specs.Conn.{isOpen};
 use crate::Decided;
 use crate::Request;
 use crate::Shown;
@@ -85,10 +86,14 @@ pub fn decide(c: Conn, e: Entry, a: Request) -> Decided
     decided(rules::verdict::judge(c, e, a.ty, view), a.next)
 }
 
-// The first place from `at` on that holds no PADDING. Each PADDING byte is a frame that changes nothing.
-pub fn past_padding(s: &[u8], at: usize) -> usize
-    ensures { λ r. ⌜ r ≡ pastPadding (now (s .entry)) at ⌝ }
+// The first place from `at` on that holds no PADDING, if the connection is open. Each PADDING byte is a frame that changes
+// nothing.
+pub fn past_padding(mark: Mark, s: &[u8], at: usize) -> usize
+    ensures { λ r. ⌜ r ≡ pastPadding (isOpen mark) (now (s .entry)) at ⌝ }
 {
+    if !mark.is_open() {
+        return at;
+    }
     let mut i = at;
     while i < s.len() {
         if s[i] != 0 {

@@ -3,6 +3,7 @@ pub mod Cases
 pub mod Handed
 pub mod Leave
 pub mod Lent
+pub mod Long
 pub mod Tables
 pub mod Unique
 pub mod Unopened

@@ -9,19 +9,14 @@ use borrow.Author.Tests.{leb-false, le-leb, lt-leb, lt-ltb, le-ltb, eq-eqb, eqb-
 use lib.Dec.{leb, eqb}
 use lib.ListN.{length}
 use Rattle.answers.specs.Choice.{_⇒_∣_}
-use Rattle.answers.specs.declared.Answer.the-variants.{DoesNotFit}
-use Rattle.answers.specs.Answers.{accepts}
-use Rattle.answers.proofs.Choice.{holds, below-or-not}
+use Rattle.answers.proofs.Choice.{below-or-not}
 use Rattle.streams.specs.declared.Conn.{Conn}
 use Rattle.streams.specs.declared.Entry.{Entry}
 use Rattle.limits.specs.declared.fits.Summed.{Summed}
 use Rattle.limits.specs.declared.fits.Summed.the-variants.{To, Unfit}
-use Rattle.streams.specs.declared.Limits.{Limits}
 use Rattle.streams.specs.Entry.{entryAt}
 use Rattle.streams.specs.Conn.{openedOf, initialOf}
 use Rattle.limits.specs.Fits.{entryFits, connFits, sumTo, allTo, fits, summedOf, concludedOf}
-use Rattle.streams.specs.Opening.{unopenedOf, openingOf}
-use Rattle.steps.specs.Opening.{openingWhen, entriesOf}
 use Rattle.tables.specs.Table.{summedTo}
 
 module _ (c : Conn) (t : List Entry) where
@@ -111,12 +106,3 @@ module _ (c : Conn) (t : List Entry) where
   pub short-unfit : eqb (length t) 192 ≡ false → false ≡ fits c t
   unfolding fits
   short-unfit e = rw e refl
-
--- opening sets no entry that the table does not have
-pub entries-within : (n : ℕ) (limits : Limits) → entriesOf (openingWhen n limits .answer) ≤ n
-unfolding openingWhen entriesOf
-entries-within n limits = go (eqb n 192) refl
-  where
-    go : (b : Bool) → eqb n 192 ≡ b → entriesOf ((b ⇒ openingOf limits ∣ unopenedOf DoesNotFit) .answer) ≤ n
-    go true e = holds (λ (k : ℕ). k ≤ n) (accepts (openingOf limits .answer)) 192 0 (λ _. omega (arith, eqb-true n 192 e)) (λ _. omega arith)
-    go false e = omega arith

@@ -1,16 +1,13 @@
-// The lent stream table as a whole: whether it fits its connection, half after half in one pass, and its entries as opening
-// sets them. No other call looks at more of it than one entry.
+// Whether the lent stream table fits its connection, half after half in one pass. Beside opening, no other call looks at more
+// of it than one entry.
 ghost use mathlib.Core.Path.{_≡_};
 ghost use Prim.Native.Nat.{_+_, _-_, _≤_};
 ghost use lib.ListN.{length};
 ghost use Rattle.limits.specs.Fits;
-ghost use Rattle.steps.specs.Opening.{openingWhen};
-ghost use Rattle.tables.specs.Table.{summedTo, untouchedTo, filledTo, openedTable};
+ghost use Rattle.tables.specs.Table.{summedTo, untouchedTo};
 use limits::fits::Summed;
 use streams::Conn;
 use streams::Entry;
-use streams::Limits;
-use streams::Opened;
 
 // Whether the entries of a half from an ordinal up to the last are as opening sets them; the first of them is at a place.
 fn rest(t: &[Entry], from: usize, ordinal: u64, initial: u64) -> bool
@@ -60,26 +57,4 @@ pub fn fits(c: Conn, t: &[Entry]) -> bool
     let r = limits::fits::part_of(c, 2);
     let d = part(t, 128, r.credit, r.opened, r.initial, b);
     limits::fits::conclude(c, d)
-}
-
-// Sets the first n entries as opening does.
-fn fill(t: &mut [Entry], n: usize, limits: Limits)
-    requires { ⌜ n ≤ length (now t) ⌝ }
-    ensures { λ _. ⌜ now (t .exit) ≡ filledTo n (now (t .entry)) limits ⌝ }
-{
-    let mut i: usize = 0;
-    while i < n {
-        t[i] = steps::opening::entry(i, limits);
-        i += 1;
-    }
-}
-
-// Opens a connection: 120 unless the table has 192 entries, then 103. Every entry is set to its half's initial credit.
-pub fn open(t: &mut [Entry], limits: Limits) -> Opened
-    ensures { λ r. ⌜ (r ≡ openingWhen (length (now (t .entry))) limits) × (now (t .exit) ≡ openedTable (now (t .entry)) limits) ⌝ }
-{
-    let o = steps::opening::open(t.len(), limits);
-    let n = steps::opening::entries(o.answer);
-    fill(t, n, limits);
-    o
 }

@@ -39,7 +39,7 @@ use denote.Triple.Table.{entered, cited}
 use denote.Triple.Walked.{says, Stays, stay-none, walkOf, goes-none, Walks, ends-at, walked, walk-meets}
 use denote.Exit.{yes}
 use Rattle.tables.proofs.Leave.{stand, leaves}
-use Rattle.receive.specs.Calling.{calledAt, calledTable}
+use Rattle.local.specs.Calling.{calledAt, calledTable}
 use Rattle.owned.specs.Owned.{ownedCallOf}
 use Rattle.tables.proofs.Lent.{ref, vals}
 use Rattle.streams.specs.declared.Conn.{Conn}
@@ -62,11 +62,11 @@ use Rattle.owned.proofs.call as f
 use Rattle.owned.proofs.call.Statement as stated
 use Rattle.owned.proofs.call.Code as code
 use Rattle.owned.proofs.call.Code.Mir as mir
-use Rattle.receive.proofs.call.Symbol as stream-def
-use Rattle.receive.proofs.call.Symbol.{name as #stream}
-use Rattle.receive.proofs.call.Met as stream-thm
+use Rattle.local.proofs.call.Symbol as stream-def
+use Rattle.local.proofs.call.Symbol.{name as #stream}
+use Rattle.local.proofs.call.Met as stream-thm
 use Rattle.tables.proofs.Handed.{lends-mut-fn}
-use Rattle.receive.proofs.call as call-fn
+use Rattle.local.proofs.call as call-fn
 use mathlib.Core.Bool.{true, false}
 
 abbrev stayed : Stays (f.ended .signature .params) (f.ended .kept)
@@ -169,4 +169,4 @@ call-spec 𝓤 H 𝓜 𝓖 𝓡 =
     entered 𝓤 H (tripleOf 𝓤 H (𝓖 .A) f.signature (f.spec 𝓤 H (𝓖 .A) (𝓜 .mem) (𝓡 .run)))
     (tables 𝓤 H 𝓜 𝓡 code.env .C) (tables 𝓤 H 𝓜 𝓡 code.env .Λ) #f code.function (code.unfolded 𝓤 H 𝓜 𝓡)
     (f-meets 𝓤 H (𝓖 .A) (givenOf 𝓤 H 𝓜 𝓖) (𝓜 .mem) (𝓡 .run) (tablesOf 𝓤 H 𝓜 (tables 𝓤 H 𝓜 𝓡 code.env))
-    (cited 𝓤 H (Call′ 𝓤 H (𝓖 .A) (𝓜 .mem) (𝓡 .run)) 𝓜 𝓡 code.env #stream stream-def.routine code.calls-receive·call (stream-thm.met 𝓤 H 𝓜 𝓖 𝓡)))
+    (cited 𝓤 H (Call′ 𝓤 H (𝓖 .A) (𝓜 .mem) (𝓡 .run)) 𝓜 𝓡 code.env #stream stream-def.routine code.calls-local·call (stream-thm.met 𝓤 H 𝓜 𝓖 𝓡)))

@@ -15,7 +15,7 @@ use prog.Memory.{Memory}
 use prog.Routine.{Routine}
 use prog.Wp.{Heap, Env, Calls, Loops, WpFn, Tables}
 use ghost.Atoms.{Atoms}
-use contract.Monad.{Fun, factI}
+use contract.Monad.{Fun}
 use contract.Running.{givenOf, tables, tablesOf}
 use types.Kit.{Given, Item, ‵, _⊛_, ⋆, Sq, runs, atRet, _$_, _∵_, !, qed, by, move, keep, drop, use1, split, join, fsplit, fjoin, suffices, frame, done}
 use types.Part.{whole, sub, look-in, agg}
@@ -44,10 +44,9 @@ use Rattle.limits.specs.Fits as whole
 use Rattle.packets.specs.Begin.{beginOf}
 use Rattle.packets.specs.Finish.{finishOf}
 use Rattle.tables.proofs.Leave.{leaves}
-use Rattle.receive.specs.Walk.{stoppedOf, walkTable}
+use Rattle.walks.specs.Walk.{stoppedOf, walkTable}
 use Rattle.receive.specs.Taking.{tookOf, tookTable}
 use Rattle.tables.proofs.Lent.{vals, ref}
-use Rattle.receive.proofs.Begins.{begins-ready}
 use Rattle.streams.specs.declared.Conn.{Conn}
 use Rattle.streams.proofs.Conn as TConn
 use Rattle.streams.proofs.Conn.Laws as TConn′
@@ -76,9 +75,9 @@ use Rattle.tables.proofs.fits.Met as fits-thm
 use Rattle.packets.proofs.checks.begin.Symbol as begin-def
 use Rattle.packets.proofs.checks.begin.Symbol.{name as #begin}
 use Rattle.packets.proofs.checks.begin.Met as begin-thm
-use Rattle.receive.proofs.step.walk.Symbol as walk-def
-use Rattle.receive.proofs.step.walk.Symbol.{name as #walk}
-use Rattle.receive.proofs.step.walk.Met as walk-thm
+use Rattle.walks.proofs.walk.Symbol as walk-def
+use Rattle.walks.proofs.walk.Symbol.{name as #walk}
+use Rattle.walks.proofs.walk.Met as walk-thm
 use Rattle.packets.proofs.checks.finish.Symbol as finish-def
 use Rattle.packets.proofs.checks.finish.Symbol.{name as #finish}
 use Rattle.packets.proofs.checks.finish.Met as finish-thm
@@ -86,7 +85,7 @@ use Rattle.packets.proofs.checks.finish as finish-fn
 use Rattle.tables.proofs.Handed.{lends-fn, gives-fn, lends-with-fn, calls-fn}
 use Rattle.tables.proofs.fits as fits-fn
 use Rattle.packets.proofs.checks.begin as begin-fn
-use Rattle.receive.proofs.step.walk as walk-fn
+use Rattle.walks.proofs.walk as walk-fn
 use denote.Enum.Laws as EL
 use Rattle.frames.proofs.Kind as TKind
 use Rattle.frames.proofs.Kind.Laws as TKind′
@@ -188,7 +187,7 @@ module _ {M : Type 1} (𝓤 : URA M) (H : Heap 𝓤) (A : Atoms 𝓤) (W : Given
           move ! (2 ∷ 0 ∷ []) $
           fjoin ! $
           move ! (2 ∷ 0 ∷ []) $
-          lends-with-fn ! fm walk-fn.ended (walk-fn.clauses 𝓤 H A mem run) known-walk TEntry.the-row ys b o gn (named 0) κ₂ q₂ (ShrSlice (named 1) κ₂ u8 .own (ref u8 bs b₂ o₂ γ₂) (vals u8 bs b₂ o₂)) (λ ν γ. (((ν ∷ [], (κ₂, tt)), (fullShare, (q₂, tt)), tt, (g₀ .conn, (ref TEntry.the-row ys b o γ, (ref u8 bs b₂ o₂ γ₂, (g₀ .at, (g₀ .kind, tt))))), (LL.val TConn.the-type TConn′.the-laws (g₀ .conn) ∷ [], (vals TEntry.the-row ys b o, (vals u8 bs b₂ o₂, (vint w64 (g₀ .at) ∷ [], (EL.val TKind.the-type TKind′.the-laws (g₀ .kind) ∷ [], tt)))))), tt)) (false ∷ true ∷ true ∷ []) (λ ν γ. (refl, refl)) (λ ν γ. (LL.makes TConn.the-type TConn′.the-plain 𝓤 H A (g₀ .conn) _ (LL.owed TBegun.the-type TBegun′.the-laws g₀ _ gg .1 .0), (uint-makes 𝓤 H A W w64 (g₀ .at) _ (refl, LL.owed TBegun.the-type TBegun′.the-laws g₀ _ gg .1 .1 .1 .0 .1), (EL.makes TKind.the-type TKind′.the-plain 𝓤 H A (g₀ .kind) _ (LL.owed TBegun.the-type TBegun′.the-laws g₀ _ gg .1 .1 .0), tt)))) (λ ν γ. (factI 𝓤 _ (emp 𝓤) (begins-ready c rs ys byte bs))) (λ ν γ. stoppedOf (g₀ .conn) ys bs (g₀ .at) (g₀ .kind)) (λ ν γ. LL.vals TStopped.the-type TStopped′.the-laws) (λ ν γ. LL.tells TStopped.the-type TStopped′.the-laws) (LL.val TStopped.the-type TStopped′.the-laws (stoppedOf (g₀ .conn) ys bs (g₀ .at) (g₀ .kind))) (Is TStopped.the-row (stoppedOf (g₀ .conn) ys bs (g₀ .at) (g₀ .kind)) (LL.val TStopped.the-type TStopped′.the-laws (stoppedOf (g₀ .conn) ys bs (g₀ .at) (g₀ .kind)) ∷ [])) (λ ν γ v g. g) (walkTable (g₀ .conn) ys bs (g₀ .at) (g₀ .kind)) 1 (λ ν γ ws. ws .1 .0) (λ ν γ ws. refl) (λ ν γ r ws. id⊢ 𝓤 _)
+          lends-with-fn ! fm walk-fn.ended (walk-fn.clauses 𝓤 H A mem run) known-walk TEntry.the-row ys b o gn (named 0) κ₂ q₂ (ShrSlice (named 1) κ₂ u8 .own (ref u8 bs b₂ o₂ γ₂) (vals u8 bs b₂ o₂)) (λ ν γ. (((ν ∷ [], (κ₂, tt)), (fullShare, (q₂, tt)), tt, (g₀ .conn, (ref TEntry.the-row ys b o γ, (ref u8 bs b₂ o₂ γ₂, (g₀ .at, (g₀ .kind, tt))))), (LL.val TConn.the-type TConn′.the-laws (g₀ .conn) ∷ [], (vals TEntry.the-row ys b o, (vals u8 bs b₂ o₂, (vint w64 (g₀ .at) ∷ [], (EL.val TKind.the-type TKind′.the-laws (g₀ .kind) ∷ [], tt)))))), tt)) (false ∷ true ∷ true ∷ []) (λ ν γ. (refl, refl)) (λ ν γ. (LL.makes TConn.the-type TConn′.the-plain 𝓤 H A (g₀ .conn) _ (LL.owed TBegun.the-type TBegun′.the-laws g₀ _ gg .1 .0), (uint-makes 𝓤 H A W w64 (g₀ .at) _ (refl, LL.owed TBegun.the-type TBegun′.the-laws g₀ _ gg .1 .1 .1 .0 .1), (EL.makes TKind.the-type TKind′.the-plain 𝓤 H A (g₀ .kind) _ (LL.owed TBegun.the-type TBegun′.the-laws g₀ _ gg .1 .1 .0), tt)))) (λ ν γ. id⊢ 𝓤 _) (λ ν γ. stoppedOf (g₀ .conn) ys bs (g₀ .at) (g₀ .kind)) (λ ν γ. LL.vals TStopped.the-type TStopped′.the-laws) (λ ν γ. LL.tells TStopped.the-type TStopped′.the-laws) (LL.val TStopped.the-type TStopped′.the-laws (stoppedOf (g₀ .conn) ys bs (g₀ .at) (g₀ .kind))) (Is TStopped.the-row (stoppedOf (g₀ .conn) ys bs (g₀ .at) (g₀ .kind)) (LL.val TStopped.the-type TStopped′.the-laws (stoppedOf (g₀ .conn) ys bs (g₀ .at) (g₀ .kind)) ∷ [])) (λ ν γ v g. g) (walkTable (g₀ .conn) ys bs (g₀ .at) (g₀ .kind)) 1 (λ ν γ ws. ws .1 .0) (λ ν γ ws. refl) (λ ν γ r ws. id⊢ 𝓤 _)
           (λ ν δ. (and-then ! (load ! (from ! (fld ! refl (stop !))) (look-in ! 18 (sub ! 1 refl (whole !)))) (and-then ! (load ! (from ! (stop !)) (look ! 6 refl)) (and-then ! (load ! (from ! (stop !)) (look ! 20 refl)) (and-then ! (load ! (from ! (fld ! refl (stop !))) (look-in ! 18 (sub ! 3 refl (whole !)))) (and-then ! (load ! (from ! (fld ! refl (stop !))) (look-in ! 18 (sub ! 2 refl (whole !)))) (no-more !))))))) (λ el gk. land ! (from ! (stop !)) (init ! 16 refl (LL.lawful TStopped.the-type TStopped′.the-laws 𝓤 H A W .typed w₀ _ gk .0)) $
           calls-fn ! fm finish-fn.ended (finish-fn.clauses 𝓤 H A mem run) known-finish ((tt, tt, tt, (g₀, (w₀, (rs, tt))), (LL.val TBegun.the-type TBegun′.the-laws g₀ ∷ [], (LL.val TStopped.the-type TStopped′.the-laws w₀ ∷ [], (LL.val TRecords.the-type TRecords′.the-laws rs ∷ [], tt)))), tt) (id⊢ 𝓤 _) (LL.makes TBegun.the-type TBegun′.the-plain 𝓤 H A g₀ _ gg, (LL.makes TStopped.the-type TStopped′.the-plain 𝓤 H A w₀ _ gk, (LL.makes TRecords.the-type TRecords′.the-plain 𝓤 H A rs _ grs, tt))) (id⊢ 𝓤 _) (finishOf g₀ w₀ rs) (LL.vals TTook.the-type TTook′.the-laws) (LL.tells TTook.the-type TTook′.the-laws) (λ r e. refl)
           (and-then ! (load ! (from ! (stop !)) (look ! 19 refl)) (and-then ! (load ! (from ! (stop !)) (look ! 17 refl)) (and-then ! (load ! (from ! (stop !)) (look ! 27 refl)) (no-more !)))) (λ gr. land ! (from ! (stop !)) (init ! 30 refl (LL.lawful TTook.the-type TTook′.the-laws 𝓤 H A W .typed out _ gr .0)) $
@@ -222,5 +221,5 @@ take-packet-spec 𝓤 H 𝓜 𝓖 𝓡 =
     (f-meets 𝓤 H (𝓖 .A) (givenOf 𝓤 H 𝓜 𝓖) (𝓜 .mem) (𝓡 .run) (tablesOf 𝓤 H 𝓜 (tables 𝓤 H 𝓜 𝓡 code.env))
     (cited 𝓤 H (Whole 𝓤 H (𝓖 .A) (𝓜 .mem) (𝓡 .run)) 𝓜 𝓡 code.env #fits fits-def.routine code.calls-tables·fits (fits-thm.met 𝓤 H 𝓜 𝓖 𝓡))
     (cited 𝓤 H (Begin 𝓤 H (𝓖 .A) (𝓜 .mem) (𝓡 .run)) 𝓜 𝓡 code.env #begin begin-def.routine code.calls-packets·checks·begin (begin-thm.met 𝓤 H 𝓜 𝓖 𝓡))
-    (cited 𝓤 H (Walk 𝓤 H (𝓖 .A) (𝓜 .mem) (𝓡 .run)) 𝓜 𝓡 code.env #walk walk-def.routine code.calls-receive·step·walk (walk-thm.met 𝓤 H 𝓜 𝓖 𝓡))
+    (cited 𝓤 H (Walk 𝓤 H (𝓖 .A) (𝓜 .mem) (𝓡 .run)) 𝓜 𝓡 code.env #walk walk-def.routine code.calls-walks·walk (walk-thm.met 𝓤 H 𝓜 𝓖 𝓡))
     (cited 𝓤 H (Finish 𝓤 H (𝓖 .A) (𝓜 .mem) (𝓡 .run)) 𝓜 𝓡 code.env #finish finish-def.routine code.calls-packets·checks·finish (finish-thm.met 𝓤 H 𝓜 𝓖 𝓡)))

@@ -1,32 +1,43 @@
--- `steps::frame::past_padding` meets its contract: what is past PADDING from the place reached is what is past it from the first.
+-- `steps::frame::past_padding` meets its contract: on an open connection, what is past PADDING from the place reached is what is past it from the first.
 -- Assumes nothing.
 use borrow.Author.Needs.{needs}
 use Prim.Native.Nat.{_-_}
-use mathlib.Core.Path.{_≡_, refl, _∙_}
+use mathlib.Core.Path.{_≡_, refl, sym, _∙_}
 use native.Mathlib.Omega.{arith}
+use borrow.Author.Tests.{not-true, not-false}
 use lib.ListN.{length}
-use Rattle.steps.specs.Past.{pastPadding}
+use Rattle.steps.specs.Past.{pastZeros, pastPadding}
 use Rattle.steps.proofs.Passed.{pass, stay, ended}
 use Rattle.steps.proofs.frame.past_padding.Statement.{statement}
 use Rattle.steps.proofs.frame.past_padding.Tie as tie
 
 abbrev Inv-loop : tie.InvT-loop
-Inv-loop s at i₀ i = pastPadding s i ≡ pastPadding s at
+Inv-loop s at i₀ i = pastZeros s i ≡ pastZeros s at
 
 abbrev μ-loop : tie.MeasureT-loop
 μ-loop s at i₀ i = length s - i
 
-inside : tie.Need-shared-slice-read-if1 Inv-loop μ-loop
+returns : tie.Need-returns Inv-loop μ-loop
+unfolding pastPadding
+returns c = rw (sym (c .before .is-open .ensures) ∙ not-true _ (c .if1 .taken)) refl
+
+inside : tie.Need-shared-slice-read-if2 Inv-loop μ-loop
 inside c = omega (arith, c .before .loop-test .taken)
 
-returns : tie.Need-returns Inv-loop μ-loop
-returns c = stay _ _ (c .if1 .taken) ∙ c .before .before .before .loop .inv
+returns-2 : tie.Need-returns-2 Inv-loop μ-loop
+unfolding pastPadding
+returns-2 c =
+    let l = c .before .before .before in
+    rw (sym (l .before .before .is-open .ensures) ∙ not-false _ (l .before .if1 .left)) (stay _ _ (c .if2 .taken) ∙ l .loop .inv)
 
 loop-again : tie.Need-loop-again Inv-loop μ-loop
-loop-again c = let l = c .before .before .before .loop in pass _ (l .i) (omega (arith, c .before .before .loop-test .taken)) (c .if1 .left) ∙ l .inv
+loop-again c = let l = c .before .before .before .loop in pass _ (l .i) (omega (arith, c .before .before .loop-test .taken)) (c .if2 .left) ∙ l .inv
 
-returns-2 : tie.Need-returns-2 Inv-loop μ-loop
-returns-2 c = ended _ _ (c .loop-test .left) ∙ c .before .loop .inv
+returns-3 : tie.Need-returns-3 Inv-loop μ-loop
+unfolding pastPadding
+returns-3 c =
+    let l = c .before in
+    rw (sym (l .before .before .is-open .ensures) ∙ not-false _ (l .before .if1 .left)) (ended _ _ (c .loop-test .left) ∙ l .loop .inv)
 
 pub past-padding-spec : {M : Type 1} → statement M
 past-padding-spec =
@@ -34,10 +45,12 @@ past-padding-spec =
     (tie.spec
     Inv-loop
     μ-loop
+    (λ c κs. search needs)
+    returns
     (λ c. refl)
     inside
-    returns
+    returns-2
     (λ c. search needs)
     (λ c. omega arith)
     loop-again
-    returns-2)
+    returns-3)

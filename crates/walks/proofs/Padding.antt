@@ -24,9 +24,9 @@ use Rattle.rules.specs.Verdict.{verdictOf, connHeard, entryHeard, settledOf, ju
 use Rattle.packets.specs.declared.Stopped.{Stopped}
 use Rattle.steps.specs.declared.Decided.{Decided}
 use Rattle.steps.specs.Step.{requestOf, requestAt, decidedOf}
-use Rattle.steps.specs.Past.{pastOf, pastPadding}
-use Rattle.answers.proofs.Choice.{through}
-use Rattle.receive.specs.Walk.{decidedAt, stopped, Walked, walkFrom}
+use Rattle.steps.specs.Past.{pastOf, pastZeros, pastPadding}
+use Rattle.answers.proofs.Choice.{holds, through}
+use Rattle.walks.specs.Walk.{decidedAt, stopped, Walked, walkFrom}
 
 -- where a walk stopped and the table, whatever it heard
 abbrev pub bare : Walked → Stopped × List Entry
@@ -67,28 +67,29 @@ module _ (s : List ℕ) (kind : Kind) (c : Conn) (t : List Entry) where
     pub left : length s ≤ steps + place
     pub same : reached steps c t s place kind ≡ reached k c t s at kind
 
-  abbrev Still : ℕ → Type 0
-  Still at = at < length s → isOpen (c .mark) ≡ true
+  here : (k at : ℕ) → length s ≤ k + at → Further k at at
+  here k at l = record { steps = k; no-more = omega arith; ahead = omega arith; left = l; same = refl }
 
   -- one byte, where the others are passed
   abbrev Passes : ℕ → Type 0
-  Passes m = (k at : ℕ) → Still at → length s ≤ k + at → Further k at (pastOf s m at)
+  Passes m = (k at : ℕ) → length s ≤ k + at → Further k at (pastOf s m at)
 
-  one-more : (m : ℕ) → Passes m → (k at : ℕ) → Still at → length s ≤ k + at → at < length s → getD s at 0 ≡ 0 → Further k at (pastOf s m (suc at))
-  one-more m others zero at h l u z = absurd (omega (arith, u, l))
-  one-more m others (suc n) at h l u z =
-      let r = others n (suc at) (λ v. h u) (omega (arith, l)) in
-      record { steps = r .steps; no-more = omega (arith, r .no-more); ahead = omega (arith, r .ahead); left = r .left; same = r .same ∙ sym (one n at u z (h u)) }
+  module _ (open-yet : isOpen (c .mark) ≡ true) where
+    one-more : (m : ℕ) → Passes m → (k at : ℕ) → length s ≤ k + at → at < length s → getD s at 0 ≡ 0 → Further k at (pastOf s m (suc at))
+    one-more m others zero at l u z = absurd (omega (arith, u, l))
+    one-more m others (suc n) at l u z =
+        let r = others n (suc at) (omega (arith, l)) in
+        record { steps = r .steps; no-more = omega (arith, r .no-more); ahead = omega (arith, r .ahead); left = r .left; same = r .same ∙ sym (one n at u z open-yet) }
 
-  passes : (m : ℕ) → Passes m
-  unfolding pastOf
-  passes zero k at h l = record { steps = k; no-more = omega arith; ahead = omega arith; left = l; same = refl }
-  passes (suc m) k at h l = go (one-more m (passes m) k at h l) (ltb at (length s) && eqb (getD s at 0) 0) refl
-    where
-      go : (at < length s → getD s at 0 ≡ 0 → Further k at (pastOf s m (suc at))) → (b : Bool) → (ltb at (length s) && eqb (getD s at 0) 0) ≡ b → Further k at (b ⇒ pastOf s m (suc at) ∣ at)
-      go f true e = let p = and-eq-true-iff (ltb at (length s)) (eqb (getD s at 0) 0) .0 e in f (ltb-true at (length s) (p .0)) (eqb-true (getD s at 0) 0 (p .1))
-      go f false e = record { steps = k; no-more = omega arith; ahead = omega arith; left = l; same = refl }
+    passes : (m : ℕ) → Passes m
+    unfolding pastOf
+    passes zero k at l = here k at l
+    passes (suc m) k at l = go (one-more m (passes m) k at l) (ltb at (length s) && eqb (getD s at 0) 0) refl
+      where
+        go : (at < length s → getD s at 0 ≡ 0 → Further k at (pastOf s m (suc at))) → (b : Bool) → (ltb at (length s) && eqb (getD s at 0) 0) ≡ b → Further k at (b ⇒ pastOf s m (suc at) ∣ at)
+        go f true e = let p = and-eq-true-iff (ltb at (length s)) (eqb (getD s at 0) 0) .0 e in f (ltb-true at (length s) (p .0)) (eqb-true (getD s at 0) 0 (p .1))
+        go f false e = here k at l
 
-  pub past : (k at : ℕ) → Still at → length s ≤ k + at → Further k at (pastPadding s at)
-  unfolding pastPadding
-  past k at h l = passes _ k at h l
+  pub past : (k at : ℕ) → length s ≤ k + at → Further k at (pastPadding (isOpen (c .mark)) s at)
+  unfolding pastPadding pastZeros
+  past k at l = holds (Further k at) (isOpen (c .mark)) (pastZeros s at) at (λ o. passes o _ k at l) (λ _. here k at l)

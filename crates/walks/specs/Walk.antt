@@ -1,7 +1,5 @@
 -- The walk over the frames of a payload, document 01: "The walk stops at the first frame that is refused: frames before it stay applied, it changes nothing itself".
-use mathlib.Core.Path.{_≡_}
-use Prim.Native.Nat.{ℕ, zero, suc, _-_, _<_}
-use mathlib.Core.Bool.{true}
+use Prim.Native.Nat.{ℕ, zero, suc, _-_}
 use mathlib.Core.List.{List, [], _∷_}
 use lib.ListN.{length, set}
 use lib.Dec.{leb}
@@ -12,9 +10,7 @@ use Rattle.answers.specs.declared.Answer.the-variants.{Accepted}
 use Rattle.frames.specs.declared.Kind.{Kind}
 use Rattle.streams.specs.declared.Conn.{Conn}
 use Rattle.streams.specs.declared.Entry.{Entry}
-use Rattle.halves.specs.Stream.{entries}
 use Rattle.streams.specs.Entry.{entryAt}
-use Rattle.streams.specs.Conn.{isOpen}
 use Rattle.views.specs.declared.View.{View}
 use Rattle.steps.specs.declared.Stepped.{Stepped}
 use Rattle.packets.specs.declared.Stopped.{Stopped}
@@ -57,11 +53,6 @@ walkFrom (suc k) c t s at kind =
     leb (length s) at ⇒ record { stop = stopped c at Accepted; table = t; heard = [] }
     ∣ steppedAt c t s at kind .more ⇒ ahead (requestAt s at kind .view) (walkFrom k (steppedAt c t s at kind .conn) (stepTable c t s at kind) s (steppedAt c t s at kind .next) kind)
     ∣ record { stop = stopped (steppedAt c t s at kind .conn) at (steppedAt c t s at kind .answer); table = stepTable c t s at kind; heard = stepHeard c t s at kind }
-
--- what a walk asks where there are frames: a whole table, and an open connection
-pub record Ready (c : Conn) (t : List Entry) (s : List ℕ) (from : ℕ) : Type 0 where
-  pub whole : from < length s → length t ≡ entries
-  pub still-open : from < length s → isOpen (c .mark) ≡ true
 
 -- there are no more frames than bytes
 abbrev pub walkAll : Conn → List Entry → List ℕ → ℕ → Kind → Walked

@@ -1,4 +1,4 @@
--- `tables::fill` meets its contract: the loop holds the table with the entries so far set. The table is opened once, before the loop, and closed after it.
+-- `local::fill` meets its contract: the loop holds the table with the entries so far set. The table is opened once, before the loop, and closed after it.
 -- Assumes nothing.
 use mathlib.Core.Path.{_≡_, refl, sym, ap, subst, _∙_}
 use Prim.Native.Nat.{ℕ, _+_, _-_, _*_, _≤_, _<_, _^_}
@@ -55,23 +55,23 @@ use Rattle.streams.proofs.Limits.Laws as TLimits′
 use Rattle.streams.specs.Entry.{fresh}
 use Rattle.halves.specs.Stream.{mostStreams}
 use Rattle.streams.specs.Conn.{initialOf}
 use Rattle.tables.proofs.Leave.{leaves}
-use Rattle.tables.specs.Table.{filledTo}
+use Rattle.local.specs.Table.{filledTo}
 use Rattle.tables.proofs.Cases.{cases, is-true, is-false}
 use Rattle.streams.specs.declared.Entry.{Entry}
 use Rattle.streams.proofs.Entry as TEntry
 use Rattle.streams.proofs.Entry.Laws as TEntry′
-use Rattle.tables.proofs.fill.Key.{name as #f}
-use Rattle.tables.proofs.fill as f
-use Rattle.tables.proofs.fill.Statement as stated
-use Rattle.tables.proofs.fill.Code as code
-use Rattle.tables.proofs.fill.Code.Mir as mir
+use Rattle.local.proofs.fill.Key.{name as #f}
+use Rattle.local.proofs.fill as f
+use Rattle.local.proofs.fill.Statement as stated
+use Rattle.local.proofs.fill.Code as code
+use Rattle.local.proofs.fill.Code.Mir as mir
 use Rattle.steps.proofs.opening.entry.Symbol as entry-def
 use Rattle.steps.proofs.opening.entry.Symbol.{name as #entry}
 use Rattle.steps.proofs.opening.entry.Met as entry-thm
 use Rattle.tables.proofs.Lent.{vals}
 use Rattle.steps.proofs.opening.entry as entry-fn
 use Rattle.tables.proofs.Handed.{calls-fn}
 
 abbrev stayed : Stays (f.ended .signature .params) (f.ended .kept)
 stayed = (stay-slice (0 ∷ []) tt (plain (λ _. TEntry.the-row)), (stay-none (λ _. usize) yes, (stay-none (λ _. TLimits.the-row) yes, tt)))

@@ -1,4 +1,4 @@
--- `receive::call` meets its contract: 120 changes nothing; else the entry that the call looks at is taken out, judged and put back.
+-- `local::call` meets its contract: 120 changes nothing; else the entry that the call looks at is taken out, judged and put back.
 -- Assumes nothing.
 use mathlib.Core.Path.{_≡_, refl, sym, ap, subst}
 use Prim.Native.Nat.{ℕ, _*_, _<_, _^_}
@@ -48,12 +48,12 @@ use Rattle.answers.specs.declared.Answer.the-variants.{DoesNotFit}
 use Rattle.streams.specs.Entry.{fresh, entryAt}
 use Rattle.limits.specs.Fits as whole
 use Rattle.calls.specs.Calls.{streamIn, repliedOf}
-use Rattle.receive.specs.Calling.{callPlace, calledAt, calledTable}
+use Rattle.local.specs.Calling.{callPlace, calledAt, calledTable}
 use Rattle.tables.proofs.Leave.{stand, leaves}
 use Rattle.tables.proofs.Cases.{fails, not-not}
 use Rattle.tables.proofs.Lent.{ref, vals}
-use Rattle.receive.proofs.Steps.{place-within}
-use Rattle.receive.proofs.Long.{fits-long}
+use Rattle.tables.proofs.Long.{place-within}
+use Rattle.tables.proofs.Long.{fits-long}
 use Rattle.streams.specs.declared.Conn.{Conn}
 use Rattle.streams.proofs.Conn as TConn
 use Rattle.streams.proofs.Conn.Laws as TConn′
@@ -73,11 +73,11 @@ use Rattle.streams.proofs.Entry as TEntry
 use Rattle.streams.proofs.Entry.Laws as TEntry′
 use Rattle.calls.proofs.place as place
 use Rattle.calls.proofs.judge as judge
-use Rattle.receive.proofs.call.Key.{name as #f}
-use Rattle.receive.proofs.call as f
-use Rattle.receive.proofs.call.Statement as stated
-use Rattle.receive.proofs.call.Code as code
-use Rattle.receive.proofs.call.Code.Mir as mir
+use Rattle.local.proofs.call.Key.{name as #f}
+use Rattle.local.proofs.call as f
+use Rattle.local.proofs.call.Statement as stated
+use Rattle.local.proofs.call.Code as code
+use Rattle.local.proofs.call.Code.Mir as mir
 use Rattle.tables.proofs.fits.Symbol as fits-def
 use Rattle.tables.proofs.fits.Symbol.{name as #fits}
 use Rattle.tables.proofs.fits.Met as fits-thm

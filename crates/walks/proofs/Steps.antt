@@ -4,10 +4,8 @@ use mathlib.Core.Path.{_≡_, refl, sym, _∙_}
 use mathlib.Core.Bool.{Bool, true, false, true≢false}
 use mathlib.Core.Logic.{_⊎_, inl, inr}
 use mathlib.Core.List.{List}
-use Prim.Native.Nat.{ℕ, _/_, _%_, _<_}
+use Prim.Native.Nat.{ℕ, _<_}
 use native.Mathlib.Omega.{arith}
-use borrow.Author.Tests.{ltb-true}
-use lib.Dec.{ltb}
 use Rattle.answers.specs.declared.Answer.{Answer}
 use Rattle.answers.specs.declared.Answer.the-variants.{FrameEncoding, ProtocolViolation}
 use Rattle.frames.specs.declared.Kind.{Kind}
@@ -18,24 +16,14 @@ use Rattle.frames.proofs.Codes.{codes}
 use Rattle.frames.proofs.Sound.{sound}
 use Rattle.streams.specs.declared.Conn.{Conn}
 use Rattle.streams.specs.declared.Entry.{Entry}
-use Rattle.halves.specs.Stream.{listed, placeOf}
 use Rattle.streams.specs.Entry.{entryAt}
 use Rattle.streams.specs.Conn.{isOpen}
 use Rattle.answers.specs.Answers.{accepts}
 use Rattle.rules.specs.Verdict.{settledOf, judgedOf}
 use Rattle.steps.specs.declared.Request.{Request}
 use Rattle.steps.specs.Step.{requestOf, requestAt, decidedOf}
-use Rattle.receive.specs.Walk.{decidedAt, steppedAt}
-
--- every stream's place is one of the table
-pub place-within : (id : ℕ) → placeOf id < 192
-unfolding placeOf listed
-place-within id = go (ltb (id % 4) 3) (ltb (id / 4) 64) refl refl
-  where
-    go : (a b : Bool) → ltb (id % 4) 3 ≡ a → ltb (id / 4) 64 ≡ b → placeOf id < 192
-    go true true p q = let r = ltb-true (id % 4) 3 p in let t = ltb-true (id / 4) 64 q in rw (p, q) (omega arith)
-    go true false p q = rw (p, q) (omega arith)
-    go false b p q = rw p (omega arith)
+use Rattle.tables.proofs.Long.{place-within}
+use Rattle.walks.specs.Walk.{decidedAt, steppedAt}
 
 pub place-low : (s : List ℕ) (at : ℕ) (kind : Kind) → requestAt s at kind .place < 192
 unfolding requestAt requestOf

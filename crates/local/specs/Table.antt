@@ -1,0 +1,19 @@
+-- The lent table's entries as opening sets them.
+use Prim.Native.Nat.{ℕ, zero, suc, _/_}
+use mathlib.Core.List.{List}
+use lib.ListN.{length, set}
+use Rattle.streams.specs.declared.Entry.{Entry}
+use Rattle.streams.specs.declared.Limits.{Limits}
+use Rattle.halves.specs.Stream.{mostStreams}
+use Rattle.streams.specs.Entry.{fresh}
+use Rattle.streams.specs.Conn.{initialOf}
+use Rattle.steps.specs.Opening.{openingWhen, entriesOf}
+
+-- the first n entries as opening sets them
+unfoldable pub filledTo : ℕ → List Entry → Limits → List Entry
+filledTo zero t limits = t
+filledTo (suc n) t limits = set (filledTo n t limits) n (fresh (initialOf limits (n / mostStreams)))
+
+-- "Opening a connection sets every entry to its type's initial credit, end 0, no final size"; a refused opening sets none
+unfoldable pub openedTable : List Entry → Limits → List Entry
+openedTable t limits = filledTo (entriesOf (openingWhen (length t) limits .answer)) t limits
