@@ -12,8 +12,8 @@ use Rattle.records.specs.Ring.{takenOf}
 use Rattle.streams.specs.declared.Mark.the-variants.{Open}
 use Rattle.streams.specs.Opening.{openedConn}
 use Rattle.streams.specs.Small.{small}
-use Rattle.packets.specs.declared.Header.the-variants.{Carries, NoPacket}
-use Rattle.packets.specs.First.{headerOf, sizeIn, reservedOf}
+use Rattle.headers.specs.declared.Header.the-variants.{Carries, NoPacket}
+use Rattle.headers.specs.First.{headerOf, sizeIn, reservedOf}
 use Rattle.packets.specs.Begin.{inSpaceOf}
 
 -- the record that holds 5 alone

@@ -24,13 +24,13 @@ use Rattle.streams.specs.Conn.{isOpen}
 use Rattle.streams.specs.Conn.{spaceOf}
 use Rattle.answers.specs.Answers.{accepts}
 use Rattle.accounts.proofs.Tests.{not-both}
-use Rattle.packets.specs.First.{headerOf, sizeIn, reservedOf}
-use Rattle.packets.specs.Spaces.{recordOf, recordsFit}
+use Rattle.headers.specs.First.{headerOf, sizeIn, reservedOf}
+use Rattle.spaces.specs.Spaces.{recordOf, recordsFit}
 use Rattle.packets.specs.Begin.{refusedOf, closesOf, testedOf, withRecovered, inSpaceOf, withKind, beginOf}
 use Rattle.packets.specs.declared.Begun.{Begun}
-use Rattle.packets.specs.declared.Records.{Records}
-use Rattle.packets.specs.declared.Header.{Header}
-use Rattle.packets.specs.declared.Header.the-variants as Header'
+use Rattle.spaces.specs.declared.Records.{Records}
+use Rattle.headers.specs.declared.Header.{Header}
+use Rattle.headers.specs.declared.Header.the-variants as Header'
 
 -- an answer that neither accepts nor closes; and it is 120 only where something does not fit
 pub record Quiet (whole : Bool) (answer : Answer) : Type 0 where

@@ -46,13 +46,13 @@ use Rattle.accounts.proofs.Tests.{not-both}
 use Rattle.answers.proofs.Accepts.{accepts-true}
 use Rattle.steps.specs.declared.Request.{Request}
 use Rattle.packets.specs.declared.Begun.{Begun}
-use Rattle.packets.specs.declared.Records.{Records}
-use Rattle.packets.specs.declared.Stopped.{Stopped}
+use Rattle.spaces.specs.declared.Records.{Records}
+use Rattle.steps.specs.declared.Stopped.{Stopped}
 use Rattle.packets.specs.declared.Took.{Took}
 use Rattle.steps.specs.declared.TookFrame.{TookFrame}
 use Rattle.steps.specs.declared.Gate.{Gate}
 use Rattle.steps.specs.declared.Decided.{Decided}
-use Rattle.packets.specs.Spaces.{recordsFit, recordedOf}
+use Rattle.spaces.specs.Spaces.{recordsFit, recordedOf}
 use Rattle.steps.specs.Step.{requestOf, requestAt, decidedOf}
 use Rattle.packets.specs.Begin as begin
 use Rattle.packets.specs.Finish.{finishOf}

@@ -46,9 +46,9 @@ use Rattle.calls.specs.Calls as calls
 use Rattle.calls.specs.Calls.{replyOf, ruledOf as ruledCall, repliedOf}
 use Rattle.limits.specs.Fits.{fits}
 use Rattle.packets.specs.declared.Begun.{Begun}
-use Rattle.packets.specs.declared.Records.{Records}
-use Rattle.packets.specs.declared.Stopped.{Stopped}
-use Rattle.packets.specs.Spaces.{recordedOf}
+use Rattle.spaces.specs.declared.Records.{Records}
+use Rattle.steps.specs.declared.Stopped.{Stopped}
+use Rattle.spaces.specs.Spaces.{recordedOf}
 use Rattle.packets.specs.Begin.{refusedOf, closesOf}
 use Rattle.packets.specs.Finish.{tookAs, finishOf}
 use Rattle.steps.specs.declared.Decided.{Decided}

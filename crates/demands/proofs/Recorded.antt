@@ -29,12 +29,12 @@ use Rattle.limits.specs.Fits.{fits}
 use Rattle.answers.specs.Answers.{accepts}
 use Rattle.answers.proofs.Accepts.{accepts-true}
 use Rattle.packets.specs.declared.Begun.{Begun}
-use Rattle.packets.specs.declared.Records.{Records}
-use Rattle.packets.specs.declared.Stopped.{Stopped}
-use Rattle.packets.specs.declared.Header.{Header}
-use Rattle.packets.specs.declared.Header.the-variants as Header'
-use Rattle.packets.specs.First.{headerOf, sizeIn, reservedOf}
-use Rattle.packets.specs.Spaces.{recordOf, withRecord, recordsFit, recordedOf}
+use Rattle.spaces.specs.declared.Records.{Records}
+use Rattle.steps.specs.declared.Stopped.{Stopped}
+use Rattle.headers.specs.declared.Header.{Header}
+use Rattle.headers.specs.declared.Header.the-variants as Header'
+use Rattle.headers.specs.First.{headerOf, sizeIn, reservedOf}
+use Rattle.spaces.specs.Spaces.{recordOf, withRecord, recordsFit, recordedOf}
 use Rattle.packets.specs.Begin.{refusedOf, closesOf, testedOf, withRecovered, inSpaceOf, withKind, beginOf}
 use Rattle.packets.specs.Finish.{finishOf}
 use Rattle.receive.specs.Taking.{begunOf, tookOf}

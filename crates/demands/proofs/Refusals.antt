@@ -36,8 +36,8 @@ use Rattle.limits.specs.Fits.{fits}
 use Rattle.packets.specs.declared.Begun.{Begun}
 use Rattle.steps.specs.declared.Shown.{Shown}
 use Rattle.steps.specs.declared.Shown.the-variants.{Nothing}
-use Rattle.packets.specs.declared.Records.{Records}
-use Rattle.packets.specs.declared.Stopped.{Stopped}
+use Rattle.spaces.specs.declared.Records.{Records}
+use Rattle.steps.specs.declared.Stopped.{Stopped}
 use Rattle.packets.specs.declared.Took.{Took}
 use Rattle.steps.specs.declared.TookFrame.{TookFrame}
 use Rattle.steps.specs.Step.{requestOf, requestAt, decidedOf, shownAt}

@@ -8,7 +8,7 @@ use Rattle.answers.specs.declared.Answer.the-variants.{Accepted}
 use Rattle.records.specs.Marks.{recorded}
 use Rattle.streams.specs.declared.Space.{Space}
 use Rattle.streams.specs.Conn.{spaceOf}
-use Rattle.packets.specs.Spaces.{recordOf}
+use Rattle.spaces.specs.Spaces.{recordOf}
 use Rattle.receive.specs.Taking.{begunOf}
 use Rattle.demands.specs.Hosts.{Host, answered, acted}
 use Rattle.demands.specs.Hosts.Act.{TakePacket}

@@ -7,7 +7,7 @@ use Rattle.streams.specs.declared.Conn.{Conn}
 use Rattle.streams.specs.declared.Entry.{Entry}
 use Rattle.streams.specs.declared.Limits.{Limits}
 use Rattle.calls.specs.declared.Call.{Call}
-use Rattle.packets.specs.declared.Records.{Records}
+use Rattle.spaces.specs.declared.Records.{Records}
 use Rattle.steps.specs.Opening.{openingWhen}
 use Rattle.local.specs.Table.{openedTable}
 use Rattle.receive.specs.Taking.{tookFrameOf, frameTable, tookOf, tookTable}

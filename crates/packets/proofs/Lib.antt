@@ -1,2 +1,1 @@
-pub mod Shared
 pub mod Unique

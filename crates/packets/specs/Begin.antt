@@ -21,11 +21,11 @@ use Rattle.streams.specs.declared.Mark.the-variants.{Code}
 use Rattle.streams.specs.Conn.{isOpen, markedAs}
 use Rattle.streams.specs.Conn.{spaceOf}
 use Rattle.answers.specs.Answers.{accepts}
-use Rattle.packets.specs.First.{headerOf, sizeIn, reservedOf}
-use Rattle.packets.specs.Spaces.{recordOf, recordsFit}
-use Rattle.packets.specs.declared.Records.{Records}
-use Rattle.packets.specs.declared.Header.{Header}
-use Rattle.packets.specs.declared.Header.the-variants as Header'
+use Rattle.headers.specs.First.{headerOf, sizeIn, reservedOf}
+use Rattle.spaces.specs.Spaces.{recordOf, recordsFit}
+use Rattle.spaces.specs.declared.Records.{Records}
+use Rattle.headers.specs.declared.Header.{Header}
+use Rattle.headers.specs.declared.Header.the-variants as Header'
 use Rattle.packets.specs.declared.Begun.{Begun}
 
 -- refused, with this connection: there are no frames to walk, as they begin where the bytes end

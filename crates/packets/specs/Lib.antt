@@ -1,4 +1,2 @@
-pub mod First
-pub mod Spaces
 pub mod Begin
 pub mod Finish

@@ -2,20 +2,20 @@
 ghost use mathlib.Core.Path.{_≡_};
 ghost use Rattle.records.specs.Parts.{joined};
 ghost use Rattle.streams.specs.Conn.{spaceOf};
-ghost use Rattle.packets.specs.Spaces.{ofParts, recordOf, recordsFit, recordedOf};
+ghost use Rattle.spaces.specs.Spaces.{ofParts, recordOf};
 ghost use Rattle.packets.specs.Begin.{refusedOf, closesOf, testedOf, inSpaceOf, beginOf};
 ghost use Rattle.packets.specs.Finish.{finishOf};
 use crate::Begun;
-use crate::Header;
-use crate::Records;
-use crate::Stopped;
 use crate::Took;
-use crate::head;
 use answers::Answer;
 use frames::Kind;
+use headers::Header;
 use numbers::Recovered;
+use spaces::Records;
+use steps::Stopped;
 use streams::Conn;
 use streams::Mark;
+use wire::Number;
 
 // A packet that is refused and changes nothing.
 fn refused(c: Conn, answer: Answer, end: usize) -> Begun
@@ -51,7 +51,7 @@ fn tested(c: Conn, test: Answer, kind: Kind, number: u64, first: u8, n: usize, e
     let Answer::Accepted = test else {
         return refused(c, test, end);
     };
-    if head::reserved(first) {
+    if headers::reserved(first) {
         return closes(c, end);
     }
     if end <= n {
@@ -70,12 +70,11 @@ fn tested(c: Conn, test: Answer, kind: Kind, number: u64, first: u8, n: usize, e
 fn in_space(c: Conn, words: &[u64; 128], top: u64, kind: Kind, first: u8, s: &[u8]) -> Begun
     ensures { λ r. ⌜ r ≡ inSpaceOf c (joined (now (words .entry)) top) kind first (now (s .entry)) ⌝ }
 {
-    let size = head::size(first);
-    let n = head::bytes_in(size);
-    if s.len() < n {
+    let size = headers::size(first);
+    let Number::Is { value, next } = headers::truncated(s, size) else {
         return refused(c, Answer::NoPacket, s.len());
-    }
-    match numbers::recover(top, size, head::truncated(s, n)) {
+    };
+    match numbers::recover(top, size, value) {
         Recovered::Refused { answer } => refused(c, answer, s.len()),
         Recovered::Is { number } => tested(
             c,
@@ -83,33 +82,10 @@ fn in_space(c: Conn, words: &[u64; 128], top: u64, kind: Kind, first: u8, s: &[u
             kind,
             number,
             first,
-            n,
+            next,
             s.len(),
         ),
     }
-}
-
-// Whether all three records fit. They are lent in their parts, since all three by value are a copy of 3 KB.
-fn fit<'a>(
-    initial: &'a [u64; 128],
-    initial_top: u64,
-    handshake: &'a [u64; 128],
-    handshake_top: u64,
-    application: &'a [u64; 128],
-    application_top: u64,
-) -> bool
-    ensures { λ r. ⌜ r ≡ recordsFit (ofParts (now (initial .entry)) «initial_top» (now (handshake .entry)) «handshake_top» (now (application .entry)) «application_top») ⌝ }
-{
-    let Answer::Accepted = records::check_of(initial, initial_top) else {
-        return false;
-    };
-    let Answer::Accepted = records::check_of(handshake, handshake_top) else {
-        return false;
-    };
-    let Answer::Accepted = records::check_of(application, application_top) else {
-        return false;
-    };
-    true
 }
 
 // A packet of a kind, with the record of its space; 0-RTT and 1-RTT share one.
@@ -141,7 +117,7 @@ pub fn begin(c: Conn, records: Records, fits: bool, first: u8, s: &[u8]) -> Begu
     if !fits {
         return refused(c, Answer::DoesNotFit, s.len());
     }
-    if !fit(
+    if !spaces::fit(
         &records.initial.words,
         records.initial.top,
         &records.handshake.words,
@@ -155,7 +131,7 @@ pub fn begin(c: Conn, records: Records, fits: bool, first: u8, s: &[u8]) -> Begu
     if !mark.is_open() {
         return refused(c, Answer::Closed, s.len());
     }
-    let Header::Carries { kind } = head::header(first) else {
+    let Header::Carries { kind } = headers::of_first(first) else {
         return refused(c, Answer::NoPacket, s.len());
     };
     by_kind(
@@ -170,30 +146,6 @@ pub fn begin(c: Conn, records: Records, fits: bool, first: u8, s: &[u8]) -> Begu
         first,
         s,
     )
-}
-
-// The records with a number more in the space of a packet.
-fn recorded(mut records: Records, kind: Kind, number: u64) -> Records
-    ensures { λ r. ⌜ r ≡ recordedOf records (spaceOf kind) number ⌝ }
-{
-    match kind {
-        Kind::Initial => {
-            let top = records.initial.top;
-            let told = records::take_of(&mut records.initial.words, top, number);
-            records.initial.top = told.top;
-        },
-        Kind::Handshake => {
-            let top = records.handshake.top;
-            let told = records::take_of(&mut records.handshake.words, top, number);
-            records.handshake.top = told.top;
-        },
-        _ => {
-            let top = records.application.top;
-            let told = records::take_of(&mut records.application.words, top, number);
-            records.application.top = told.top;
-        },
-    }
-    records
 }
 
 // A packet after its frames: its number is recorded if none was refused.
@@ -225,6 +177,6 @@ pub fn finish(begun: Begun, stopped: Stopped, records: Records) -> Took
         answer,
         place,
         conn,
-        records: recorded(records, kind, begun.number),
+        records: spaces::recorded(records, kind, begun.number),
     }
 }

@@ -9,7 +9,7 @@ use Rattle.limits.specs.Fits.{fits}
 use Rattle.packets.specs.declared.Begun.{Begun}
 use Rattle.steps.specs.declared.Gate.{Gate}
 use Rattle.steps.specs.declared.Shown.the-variants.{Nothing}
-use Rattle.packets.specs.declared.Records.{Records}
+use Rattle.spaces.specs.declared.Records.{Records}
 use Rattle.packets.specs.declared.Took.{Took}
 use Rattle.steps.specs.declared.TookFrame.{TookFrame}
 use Rattle.packets.specs.Begin.{beginOf}

@@ -3,8 +3,8 @@
 ghost use mathlib.Core.Path.{_≡_};
 ghost use Rattle.receive.specs.Taking.{tookFrameOf, frameTable, tookOf, tookTable};
 use frames::Kind;
-use packets::Records;
 use packets::Took;
+use spaces::Records;
 use steps::Shown;
 use steps::TookFrame;
 use streams::Conn;

@@ -1,7 +1,7 @@
 // What is kept between lines: whether a connection was opened, that connection, its three records and its table.
 use answers::Answer;
-use packets::Records;
 use records::Record;
+use spaces::Records;
 use streams::Conn;
 use streams::Entry;
 

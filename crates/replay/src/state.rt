@@ -2,7 +2,7 @@
 use crate::say;
 use crate::session;
 use crate::session::Ran;
-use packets::Records;
+use spaces::Records;
 use streams::Conn;
 use streams::Entry;
 use streams::Mark;

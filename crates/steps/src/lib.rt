@@ -34,6 +34,13 @@ pub struct Decided {
     pub entry: Entry,
 }
 
+// Where a walk over frames stopped, with which answer: at the frame that is refused or closes the connection, or after the last one.
+pub struct Stopped {
+    pub conn: Conn,
+    pub place: usize,
+    pub answer: Answer,
+}
+
 // What a call for one frame shows the caller: the type if it could be read, the frame with the place after it if its
 // fields could.
 pub enum Shown {

@@ -21,7 +21,7 @@ use Rattle.halves.specs.Stream.{placeOf}
 use Rattle.streams.specs.Entry.{fresh, entryAt}
 use Rattle.streams.specs.Conn.{isOpen}
 use Rattle.rules.specs.Verdict.{verdictOf, connHeard, entryHeard, settledOf, judgedOf}
-use Rattle.packets.specs.declared.Stopped.{Stopped}
+use Rattle.steps.specs.declared.Stopped.{Stopped}
 use Rattle.steps.specs.declared.Decided.{Decided}
 use Rattle.steps.specs.Step.{requestOf, requestAt, decidedOf}
 use Rattle.steps.specs.Past.{pastOf, pastZeros, pastPadding}

@@ -12,7 +12,7 @@ use denote.Ref.{now}
 use Rattle.answers.specs.Firm.{FirmClauses}
 use Rattle.answers.proofs.Firm.{clauses-equations}
 use Rattle.streams.specs.declared.Entry.{Entry}
-use Rattle.packets.specs.declared.Stopped.{Stopped}
+use Rattle.steps.specs.declared.Stopped.{Stopped}
 use Rattle.steps.specs.declared.Stepped.{Stepped}
 use Rattle.walks.proofs.step as stepping
 use Rattle.walks.proofs.walk as walking

@@ -13,7 +13,7 @@ use Rattle.streams.specs.declared.Entry.{Entry}
 use Rattle.streams.specs.Entry.{entryAt}
 use Rattle.views.specs.declared.View.{View}
 use Rattle.steps.specs.declared.Stepped.{Stepped}
-use Rattle.packets.specs.declared.Stopped.{Stopped}
+use Rattle.steps.specs.declared.Stopped.{Stopped}
 use Rattle.steps.specs.declared.Decided.{Decided}
 use Rattle.steps.specs.Step.{requestAt, decidedOf}
 

@@ -4,8 +4,8 @@ ghost use mathlib.Core.Path.{_≡_};
 ghost use Rattle.walks.specs.Walk.{steppedAt, stepTable, stoppedOf, walkTable};
 use answers::Answer;
 use frames::Kind;
-use packets::Stopped;
 use steps::Stepped;
+use steps::Stopped;
 use streams::Conn;
 use streams::Entry;
 

@@ -47,9 +47,9 @@ use Rattle.tables.proofs.Lent.{ref, vals}
 use Rattle.streams.specs.declared.Conn.{Conn}
 use Rattle.streams.proofs.Conn as TConn
 use Rattle.streams.proofs.Conn.Laws as TConn′
-use Rattle.packets.specs.declared.Records.{Records}
-use Rattle.packets.proofs.Records as TRecords
-use Rattle.packets.proofs.Records.Laws as TRecords′
+use Rattle.spaces.specs.declared.Records.{Records}
+use Rattle.spaces.proofs.Records as TRecords
+use Rattle.spaces.proofs.Records.Laws as TRecords′
 use Rattle.owned.specs.declared.OwnedPacket.{OwnedPacket}
 use Rattle.owned.proofs.OwnedPacket as TOwnedPacket
 use Rattle.owned.proofs.OwnedPacket.Laws as TOwnedPacket′

@@ -50,18 +50,18 @@ use Rattle.tables.proofs.Lent.{vals, ref}
 use Rattle.streams.specs.declared.Conn.{Conn}
 use Rattle.streams.proofs.Conn as TConn
 use Rattle.streams.proofs.Conn.Laws as TConn′
-use Rattle.packets.specs.declared.Records.{Records}
-use Rattle.packets.proofs.Records as TRecords
-use Rattle.packets.proofs.Records.Laws as TRecords′
+use Rattle.spaces.specs.declared.Records.{Records}
+use Rattle.spaces.proofs.Records as TRecords
+use Rattle.spaces.proofs.Records.Laws as TRecords′
 use Rattle.packets.specs.declared.Took.{Took}
 use Rattle.packets.proofs.Took as TTook
 use Rattle.packets.proofs.Took.Laws as TTook′
 use Rattle.packets.specs.declared.Begun.{Begun}
 use Rattle.packets.proofs.Begun as TBegun
 use Rattle.packets.proofs.Begun.Laws as TBegun′
-use Rattle.packets.specs.declared.Stopped.{Stopped}
-use Rattle.packets.proofs.Stopped as TStopped
-use Rattle.packets.proofs.Stopped.Laws as TStopped′
+use Rattle.steps.specs.declared.Stopped.{Stopped}
+use Rattle.steps.proofs.Stopped as TStopped
+use Rattle.steps.proofs.Stopped.Laws as TStopped′
 use Rattle.streams.specs.declared.Entry.{Entry}
 use Rattle.streams.proofs.Entry as TEntry
 use Rattle.receive.proofs.take_packet.Key.{name as #f}

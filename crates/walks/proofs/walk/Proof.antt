@@ -64,9 +64,9 @@ use Rattle.streams.proofs.Conn.Laws as TConn′
 use Rattle.frames.specs.declared.Kind.{Kind}
 use Rattle.frames.proofs.Kind as TKind
 use Rattle.frames.proofs.Kind.Laws as TKind′
-use Rattle.packets.specs.declared.Stopped.{Stopped}
-use Rattle.packets.proofs.Stopped as TStopped
-use Rattle.packets.proofs.Stopped.Laws as TStopped′
+use Rattle.steps.specs.declared.Stopped.{Stopped}
+use Rattle.steps.proofs.Stopped as TStopped
+use Rattle.steps.proofs.Stopped.Laws as TStopped′
 use Rattle.walks.specs.declared.Stop.{Stop}
 use Rattle.walks.proofs.Stop as TStop
 use Rattle.walks.proofs.Stop.Laws as TStop′

@@ -1,10 +1,9 @@
 -- `packets::checks::begin` meets its contract: the tests are those of the definition, in its order.
 -- Assumes nothing.
-use borrow.Author.Needs.{needs}
 use mathlib.Core.Path.{_≡_, sym, _∙_}
 use mathlib.Core.Bool.{true, false}
 use borrow.Author.Tests.{not-true, not-false}
-use Rattle.packets.specs.Spaces.{recordsFit}
+use Rattle.spaces.specs.Spaces.{recordsFit}
 use Rattle.packets.specs.Begin.{beginOf}
 use Rattle.packets.proofs.checks.begin.Statement.{statement}
 use Rattle.packets.proofs.checks.begin.Tie as tie
@@ -38,7 +37,7 @@ returns-4 c =
     let f = o .before .before in
     let a = f .before .before .before .before .before .before .before .args in
     let fits : recordsFit (a .t2) ≡ true = not-false _ (rw (f .fit .ensures) at (o .before .if2 .left)) in
-    rw (not-false (a .fits) (f .before .before .before .before .before .if1 .left), fits, sym (o .is-open .ensures) ∙ not-false _ (t .before .if3 .left), sym (t .header .ensures) ∙ c .before .enum-told .given .1) (c .refused4 .ensures)
+    rw (not-false (a .fits) (f .before .before .before .before .before .if1 .left), fits, sym (o .is-open .ensures) ∙ not-false _ (t .before .if3 .left), sym (t .of-first .ensures) ∙ c .before .enum-told .given .1) (c .refused4 .ensures)
 
 returns-5 : tie.Need-returns-5
 unfolding beginOf
@@ -49,24 +48,24 @@ returns-5 c =
     let f = o .before .before in
     let a = f .before .before .before .before .before .before .before .args in
     let fits : recordsFit (a .t2) ≡ true = not-false _ (rw (f .fit .ensures) at (o .before .if2 .left)) in
-    rw (not-false (a .fits) (f .before .before .before .before .before .if1 .left), fits, sym (o .is-open .ensures) ∙ not-false _ (t .before .if3 .left), sym (t .header .ensures) ∙ k .kind .given .1) (c .by-kind .ensures)
+    rw (not-false (a .fits) (f .before .before .before .before .before .if1 .left), fits, sym (o .is-open .ensures) ∙ not-false _ (t .before .if3 .left), sym (t .of-first .ensures) ∙ k .kind .given .1) (c .by-kind .ensures)
 
 pub begin-spec : {M : Type 1} → statement M
 begin-spec =
     tie.close
     (tie.spec
-    (λ c κs. search needs)
+    (λ c κs. tt)
     returns
-    (λ c κs. search needs)
-    (λ c κs. search needs)
+    (λ c κs. tt)
+    (λ c κs. tt)
     returns-2
-    (λ c κs. search needs)
-    (λ c κs. search needs)
+    (λ c κs. tt)
+    (λ c κs. tt)
     returns-3
-    (λ c κs. search needs)
-    (λ c. search needs)
-    (λ c. search needs)
-    (λ c κs. search needs)
+    (λ c κs. tt)
+    (λ c. c .match .keys1)
+    (λ c. c .match .keys2)
+    (λ c κs. tt)
     returns-4
-    (λ c κs. search needs)
+    (λ c κs. tt)
     returns-5)

@@ -1,9 +1,8 @@
 -- `packets::checks::by_kind` meets its contract: the match takes the record of the packet's space.
 -- Assumes nothing.
-use borrow.Author.Needs.{needs}
 use mathlib.Core.Path.{ap}
 use Rattle.streams.specs.Conn.{spaceOf}
-use Rattle.packets.proofs.Shared.{shared}
+use Rattle.spaces.proofs.Shared.{shared}
 use Rattle.packets.proofs.checks.by_kind.Statement.{statement}
 use Rattle.packets.proofs.checks.by_kind.Tie as tie
 
@@ -20,11 +19,11 @@ pub by-kind-spec : {M : Type 1} → statement M
 by-kind-spec =
     tie.close
     (tie.spec
-    (λ c. search needs)
-    (λ c κs. search needs)
-    (λ c. search needs)
-    (λ c κs. search needs)
-    (λ c κs. search needs)
+    (λ c. c .match .keys1)
+    (λ c κs. tt)
+    (λ c. c .match .keys2)
+    (λ c κs. tt)
+    (λ c κs. tt)
     returns
     returns-2
     returns-3)

@@ -1,12 +1,12 @@
--- `packets::checks::fit` meets its contract: a record can be exactly where its check accepts.
+-- `spaces::fit` meets its contract: a record can be exactly where its check accepts.
 -- Assumes nothing.
 use borrow.Author.Needs.{needs}
 use mathlib.Core.Path.{sym, _∙_}
 use Rattle.answers.proofs.Numbers.{other}
 use Rattle.records.proofs.Taking.{can-be, cannot-be}
-use Rattle.packets.specs.Spaces.{recordsFit}
-use Rattle.packets.proofs.checks.fit.Statement.{statement}
-use Rattle.packets.proofs.checks.fit.Tie as tie
+use Rattle.spaces.specs.Spaces.{recordsFit}
+use Rattle.spaces.proofs.fit.Statement.{statement}
+use Rattle.spaces.proofs.fit.Tie as tie
 
 returns : tie.Need-returns
 unfolding recordsFit

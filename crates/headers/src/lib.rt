@@ -1,16 +1,21 @@
 // The plain first byte of a packet and the bytes of its number (RFC 9000, 17.1 to 17.3).
 ghost use mathlib.Core.Path.{_≡_};
 ghost use Prim.Native.Nat.{_≤_};
-ghost use lib.ListN.{length};
-ghost use Rattle.wire.specs.Number.{bigEndian};
+ghost use Rattle.wire.specs.Number.{plainAt};
 ghost use Rattle.numbers.specs.Numbers.{bytesIn};
-ghost use Rattle.packets.specs.First.{headerOf, sizeIn, reservedOf};
-use crate::Header;
+ghost use Rattle.headers.specs.First.{headerOf, sizeIn, reservedOf};
 use frames::Kind;
 use numbers::Size;
+use wire::Number;
 
-// The kind of packet.
-pub(crate) fn header(first: u8) -> Header
+// What the plain first byte tells: a packet of frames, or none that can be taken.
+pub enum Header {
+    Carries { kind: Kind },
+    NoPacket,
+}
+
+// What a plain first byte tells.
+pub fn of_first(first: u8) -> Header
     ensures { λ r. ⌜ r ≡ headerOf first ⌝ }
 {
     if first / 64 % 2 == 0 {
@@ -35,7 +40,7 @@ pub(crate) fn header(first: u8) -> Header
 }
 
 // The length of the number: the low two bits, plus one.
-pub(crate) fn size(first: u8) -> Size
+pub fn size(first: u8) -> Size
     ensures { λ r. ⌜ r ≡ sizeIn first ⌝ }
 {
     let low = first % 4;
@@ -48,7 +53,7 @@ pub(crate) fn size(first: u8) -> Size
 }
 
 // Whether reserved bits are set: 0x0c of a long header, 0x18 of a short one.
-pub(crate) fn reserved(first: u8) -> bool
+pub fn reserved(first: u8) -> bool
     ensures { λ r. ⌜ r ≡ reservedOf first ⌝ }
 {
     if first / 128 == 0 {
@@ -57,7 +62,7 @@ pub(crate) fn reserved(first: u8) -> bool
     first / 4 % 4 != 0
 }
 
-pub(crate) fn bytes_in(size: Size) -> usize
+fn bytes_in(size: Size) -> usize
     ensures { λ r. ⌜ (r ≡ bytesIn size) × (1 ≤ r) × (r ≤ 4) ⌝ }
 {
     match size {
@@ -74,16 +79,19 @@ fn wide(x: u8) -> u64
     x as u64
 }
 
-// The truncated number: the first bytes, the highest first.
-pub(crate) fn truncated(s: &[u8], n: usize) -> u64
-    requires { ⌜ (n ≤ 4) × (n ≤ length (now s)) ⌝ }
-    ensures { λ r. ⌜ r ≡ bigEndian (now (s .entry)) 0 n ⌝ }
+// The truncated number and the place after it: the first bytes, the highest first.
+pub fn truncated(s: &[u8], size: Size) -> Number
+    ensures { λ r. ⌜ r ≡ plainAt (now (s .entry)) 0 (bytesIn size) ⌝ }
 {
+    let n = bytes_in(size);
+    if s.len() < n {
+        return Number::CutShort;
+    }
     let mut value: u64 = 0;
     let mut i: usize = 0;
     while i < n {
         value = value * 256 + wide(s[i]);
         i += 1;
     }
-    value
+    Number::Is { value, next: n }
 }

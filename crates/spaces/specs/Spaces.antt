@@ -8,7 +8,7 @@ use Rattle.records.specs.Ring.{takenOf}
 use Rattle.records.specs.Parts.{joined}
 use Rattle.streams.specs.declared.Space.{Space}
 use Rattle.streams.specs.declared.Space.the-variants.{Initial, Handshake, Application}
-use Rattle.packets.specs.declared.Records.{Records}
+use Rattle.spaces.specs.declared.Records.{Records}
 
 -- the three records by their words and tops, which the code is lent apart
 abbrev pub ofParts : List ℕ → ℕ → List ℕ → ℕ → List ℕ → ℕ → Records

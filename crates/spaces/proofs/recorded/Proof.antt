@@ -1,13 +1,13 @@
--- `packets::checks::recorded` meets its contract: the match takes the record of the packet's space, and 0-RTT shares that of 1-RTT.
+-- `spaces::recorded` meets its contract: the match takes the record of the packet's space, and 0-RTT shares that of 1-RTT.
 -- Assumes nothing.
 use borrow.Author.Needs.{needs}
 use mathlib.Core.Path.{ap}
 use Rattle.records.specs.declared.Taken.{Taken}
 use Rattle.streams.specs.declared.Space.the-variants.{Initial, Handshake, Application}
-use Rattle.packets.specs.Spaces.{withRecord, recordedOf}
-use Rattle.packets.proofs.Shared.{shared}
-use Rattle.packets.proofs.checks.recorded.Statement.{statement}
-use Rattle.packets.proofs.checks.recorded.Tie as tie
+use Rattle.spaces.specs.Spaces.{withRecord, recordedOf}
+use Rattle.spaces.proofs.Shared.{shared}
+use Rattle.spaces.proofs.recorded.Statement.{statement}
+use Rattle.spaces.proofs.recorded.Tie as tie
 
 returns : tie.Need-returns
 unfolding recordedOf

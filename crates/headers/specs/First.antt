@@ -6,8 +6,8 @@ use Rattle.answers.specs.Choice.{_⇒_∣_}
 use Rattle.frames.specs.declared.Kind.the-variants.{Initial, Handshake, ZeroRtt, OneRtt}
 use Rattle.numbers.specs.declared.Size.{Size}
 use Rattle.numbers.specs.declared.Size.the-variants.{One, Two, Three, Four}
-use Rattle.packets.specs.declared.Header.{Header}
-use Rattle.packets.specs.declared.Header.the-variants.{Carries, NoPacket}
+use Rattle.headers.specs.declared.Header.{Header}
+use Rattle.headers.specs.declared.Header.the-variants.{Carries, NoPacket}
 
 -- bit 0x40 is set; top bit 0 is the short header of 1-RTT; else bits 0x30: 0 Initial, 1 0-RTT, 2 Handshake, and 3, Retry, has no frames
 unfoldable pub headerOf : ℕ → Header

@@ -1,9 +1,9 @@
--- `packets::head::size` meets its contract: the match is that of the definition, and 3 is the rest.
+-- `headers::size` meets its contract: the match is that of the definition, and 3 is the rest.
 -- Assumes nothing.
 use borrow.Author.Tests.{ne-eqb}
-use Rattle.packets.specs.First.{sizeIn}
-use Rattle.packets.proofs.head.size.Statement.{statement}
-use Rattle.packets.proofs.head.size.Tie as tie
+use Rattle.headers.specs.First.{sizeIn}
+use Rattle.headers.proofs.size.Statement.{statement}
+use Rattle.headers.proofs.size.Tie as tie
 
 returns : tie.Need-returns
 unfolding sizeIn

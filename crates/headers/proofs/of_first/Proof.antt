@@ -1,10 +1,10 @@
--- `packets::head::header` meets its contract: the tests are those of the definition, in its order, and the match tells the form.
+-- `headers::of_first` meets its contract: the tests are those of the definition, in its order, and the match tells the form.
 -- Assumes nothing.
 use Prim.Native.Nat.{_/_, _%_}
 use borrow.Author.Tests.{eq-eqb, ne-eqb}
-use Rattle.packets.specs.First.{headerOf}
-use Rattle.packets.proofs.head.header.Statement.{statement}
-use Rattle.packets.proofs.head.header.Tie as tie
+use Rattle.headers.specs.First.{headerOf}
+use Rattle.headers.proofs.of_first.Statement.{statement}
+use Rattle.headers.proofs.of_first.Tie as tie
 
 returns : tie.Need-returns
 unfolding headerOf
@@ -30,8 +30,8 @@ returns-6 : tie.Need-returns-6
 unfolding headerOf
 returns-6 c = let b = c .before .before .before .args .first in rw (ne-eqb (b / 0x40 % 2) 0 (c .before .before .if1 .left), ne-eqb (b / 0x80) 0 (c .before .if2 .left), ne-eqb (b / 0x10 % 4) 0 (c .match .rest .0 .0 .1), ne-eqb (b / 0x10 % 4) 1 (c .match .rest .0 .1), ne-eqb (b / 0x10 % 4) 2 (c .match .rest .1))
 
-pub header-spec : {M : Type 1} → statement M
-header-spec =
+pub of-first-spec : {M : Type 1} → statement M
+of-first-spec =
     tie.close
     (tie.spec
     returns

@@ -1,10 +1,10 @@
--- `packets::head::reserved` meets its contract: the test is that of the definition, and so are the bits on either side of it.
+-- `headers::reserved` meets its contract: the test is that of the definition, and so are the bits on either side of it.
 -- Assumes nothing.
 use Prim.Native.Nat.{_/_}
 use borrow.Author.Tests.{eq-eqb, ne-eqb}
-use Rattle.packets.specs.First.{reservedOf}
-use Rattle.packets.proofs.head.reserved.Statement.{statement}
-use Rattle.packets.proofs.head.reserved.Tie as tie
+use Rattle.headers.specs.First.{reservedOf}
+use Rattle.headers.proofs.reserved.Statement.{statement}
+use Rattle.headers.proofs.reserved.Tie as tie
 
 returns : tie.Need-returns
 unfolding reservedOf
