@@ -7,7 +7,7 @@ use Rattle.streams.specs.Conn.{countOf, handedOutOf}
 use Rattle.streams.specs.Opening.{limitsFit, openingOf}
 use Rattle.views.specs.View.{endOf}
 use Rattle.rules.specs.Rules.{rule1, rule2, blockedOf, forSenderOf}
-use Rattle.rules.specs.Verdict.{verdictOf, connHeard}
+use Rattle.verdicts.specs.Verdict.{verdictOf, connHeard}
 use Rattle.calls.specs.Calls.{raiseOf, replyOf, settledOf, ruledOf, repliedOf}
 use Rattle.limits.specs.Fits.{isFresh, entryFitsAs, openFit, connFits, summedOf, concludedOf}
 use Rattle.accounts.specs.Borders.{Borders}

@@ -21,7 +21,7 @@ use Rattle.streams.specs.Entry.{finalOf, entryAt, entryOf}
 use Rattle.streams.specs.Conn.{isOpen, openedOf, countOf}
 use Rattle.views.specs.declared.View.the-variants.{Ends}
 use Rattle.rules.specs.Rules.{rule1, rule2, rule3, rule4, rule5, endsOf}
-use Rattle.rules.specs.Verdict.{verdictOf}
+use Rattle.verdicts.specs.Verdict.{verdictOf}
 use Rattle.limits.specs.Fits.{sumTo, fits}
 use Rattle.accounts.specs.History.{Event, ruledOf, State, answerOf, stateOf, AllAccepted, own, furthestOf, finalNamed, furthest, creditOf, maySend, granted, ruling}
 use Rattle.accounts.specs.History.Event.{Got}

@@ -24,7 +24,7 @@ use Rattle.streams.specs.Conn.{initialOf, openedOf, countOf}
 use Rattle.streams.specs.Opening.{limitsFit, openedConn, unopenedOf, openingOf}
 use Rattle.views.specs.declared.View.the-variants.{Ends, Blocks, ForSender, Acks, Closes, Nothing}
 use Rattle.rules.specs.Rules.{endsOf}
-use Rattle.rules.specs.Verdict.{verdictOf, entryHeard}
+use Rattle.verdicts.specs.Verdict.{verdictOf, entryHeard}
 use Rattle.calls.specs.declared.Call.the-variants.{RaiseCredit, RaiseStream, RaiseCount, OpenNext}
 use Rattle.accounts.specs.History.{Event, looksAt, ruledOf, entryAfter, after, listTo, opened, WasOpened, stateOf, AllAccepted, End, added, own, furthestOf, finalNamed}
 use Rattle.accounts.specs.History.Event.{Got, Did, Gave}

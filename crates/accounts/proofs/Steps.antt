@@ -27,7 +27,7 @@ use Rattle.streams.specs.Entry.{mostCredit, finalOf, isKnown, fresh, reached, c
 use Rattle.streams.specs.Conn.{isOpen, markedAs, limitedTo, advertisedOf, initialOf, withCredit, withCount, openedOf, countOf, openTo, handedOn}
 use Rattle.views.specs.declared.View.the-variants.{Ends, Blocks, ForSender, Acks, Closes, Nothing}
 use Rattle.rules.specs.Rules.{rule1, rule2, against, rule3, endsOf, blockedOf, forSenderOf}
-use Rattle.rules.specs.Verdict.{verdictOf, connHeard, entryHeard}
+use Rattle.verdicts.specs.Verdict.{verdictOf, connHeard, entryHeard}
 use Rattle.rules.proofs.Taken as rules
 use Rattle.calls.specs.declared.Call.the-variants.{RaiseCredit, RaiseStream, RaiseCount, OpenNext}
 use Rattle.calls.specs.Calls.{raiseOf, peersType, oursType, nextOf, replyOf}

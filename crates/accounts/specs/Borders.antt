@@ -18,7 +18,7 @@ use Rattle.streams.specs.Opening.{openedConn, openingOf}
 use Rattle.views.specs.declared.View.{View}
 use Rattle.views.specs.declared.View.the-variants.{Ends, Blocks, ForSender, Acks, Closes, Nothing}
 use Rattle.views.specs.View.{viewOf}
-use Rattle.rules.specs.Verdict.{verdictOf, connHeard}
+use Rattle.verdicts.specs.Verdict.{verdictOf, connHeard}
 use Rattle.calls.specs.declared.Call.{Call}
 use Rattle.calls.specs.declared.Call.the-variants.{RaiseCredit, RaiseStream, RaiseCount, OpenNext}
 use Rattle.calls.specs.Calls.{repliedOf}

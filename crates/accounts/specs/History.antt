@@ -23,7 +23,7 @@ use Rattle.views.specs.declared.View.{View}
 use Rattle.views.specs.declared.View.the-variants.{Ends, Blocks, ForSender, Acks, Closes, Nothing}
 use Rattle.views.specs.View as views
 use Rattle.rules.specs.Rules.{rule1, rule2, rule3, rule4}
-use Rattle.rules.specs.Verdict.{verdictOf, connHeard, entryHeard}
+use Rattle.verdicts.specs.Verdict.{verdictOf, connHeard, entryHeard}
 use Rattle.calls.specs.declared.Call.{Call}
 use Rattle.calls.specs.Calls as calls
 use Rattle.calls.specs.Calls.{replyOf, connCalled, entryCalled}

@@ -23,7 +23,7 @@ use Rattle.records.proofs.Taking.{can-be, leaves, still-fits}
 use Rattle.streams.specs.declared.Conn.{Conn}
 use Rattle.streams.specs.declared.Entry.{Entry}
 use Rattle.streams.specs.declared.Called.{Called}
-use Rattle.rules.specs.declared.Judged.{Judged}
+use Rattle.verdicts.specs.declared.Judged.{Judged}
 use Rattle.streams.specs.declared.Mark.{Mark}
 use Rattle.streams.specs.declared.Space.{Space}
 use Rattle.streams.specs.declared.Space.the-variants.{Initial, Handshake, Application}
@@ -33,7 +33,7 @@ use Rattle.halves.specs.Stream.{streamOf, halfOf, ordinalOf, peers, receives, s
 use Rattle.streams.specs.Entry.{mostCredit, finalOf, isKnown, entryAt}
 use Rattle.streams.specs.Conn.{isOpen, openedOf, countOf, nextOf, handedOutOf, spaceOf}
 use Rattle.rules.specs.Rules.{rule1, rule2, rule3, rule4, rule5, endsOf, blockedOf, forSenderOf}
-use Rattle.rules.specs.Verdict.{verdictOf, settledOf, judgedOf}
+use Rattle.verdicts.specs.Verdict.{verdictOf, settledOf, judgedOf}
 use Rattle.calls.specs.declared.Call.{Call}
 use Rattle.calls.specs.declared.Call.the-variants.{RaiseCredit, RaiseStream, RaiseCount, OpenNext}
 use Rattle.calls.specs.declared.Replied.{Replied}

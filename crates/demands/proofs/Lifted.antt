@@ -39,7 +39,7 @@ use Rattle.streams.specs.Conn.{isOpen, markedAs, initialOf, nextOf, handedOn, h
 use Rattle.streams.specs.Opening.{limitsFit, openedConn, unopenedOf, openingOf}
 use Rattle.views.specs.declared.View.{View}
 use Rattle.views.specs.View.{viewOf, streamIn}
-use Rattle.rules.specs.Verdict.{verdictOf, settledOf, judgedOf}
+use Rattle.verdicts.specs.Verdict.{verdictOf, settledOf, judgedOf}
 use Rattle.calls.specs.declared.Call.{Call}
 use Rattle.calls.specs.declared.Replied.{Replied}
 use Rattle.calls.specs.Calls as calls

@@ -30,12 +30,12 @@ use Rattle.streams.specs.declared.Mark.the-variants.{Open, Code}
 use Rattle.streams.specs.Entry.{entryAt, entryOf}
 use Rattle.streams.specs.Conn.{isOpen, markedAs, countOf}
 use Rattle.halves.specs.Stream.{halfOf}
-use Rattle.rules.specs.declared.Judged.{Judged}
+use Rattle.verdicts.specs.declared.Judged.{Judged}
 use Rattle.views.specs.declared.View.{View}
 use Rattle.views.specs.declared.View.the-variants.{Ends}
 use Rattle.rules.specs.Rules.{rule5}
 use Rattle.views.specs.View.{viewOf, streamIn}
-use Rattle.rules.specs.Verdict.{verdictOf, settledOf, judgedOf}
+use Rattle.verdicts.specs.Verdict.{verdictOf, settledOf, judgedOf}
 use Rattle.limits.specs.Fits.{fits}
 use Rattle.packets.specs.declared.Begun.{Begun}
 use Rattle.packets.specs.Begin.{refusedOf, closesOf}

@@ -19,7 +19,7 @@ use Rattle.frames.specs.Reading.{frameAt}
 use Rattle.streams.specs.declared.Called.{Called}
 use Rattle.streams.specs.declared.Conn.{Conn}
 use Rattle.streams.specs.declared.Entry.{Entry}
-use Rattle.rules.specs.declared.Judged.{Judged}
+use Rattle.verdicts.specs.declared.Judged.{Judged}
 use Rattle.streams.specs.declared.Mark.the-variants.{Code}
 use Rattle.streams.specs.declared.Space.{Space}
 use Rattle.halves.specs.Stream.{placeOf}
@@ -27,7 +27,7 @@ use Rattle.streams.specs.Entry.{entryAt, entryOf, mostCredit}
 use Rattle.streams.specs.Conn.{isOpen, markedAs, nextOf, handedOutOf}
 use Rattle.answers.specs.Answers.{accepts}
 use Rattle.views.specs.View.{viewOf, streamIn, framePlace}
-use Rattle.rules.specs.Verdict.{verdictOf, settledOf, judgedOf}
+use Rattle.verdicts.specs.Verdict.{verdictOf, settledOf, judgedOf}
 use Rattle.calls.specs.declared.Call.{Call}
 use Rattle.calls.specs.declared.Replied.{Replied}
 use Rattle.calls.specs.Calls as calls

@@ -26,7 +26,7 @@ use Rattle.streams.specs.Conn.{countOf}
 use Rattle.streams.specs.Opening.{limitsFit, openingOf}
 use Rattle.rules.specs.Rules.{rule1, rule2, rule3, rule4, rule5, endsOf}
 use Rattle.views.specs.View.{endOf}
-use Rattle.rules.specs.Verdict.{verdictOf, connHeard, entryHeard, settledOf, judgedOf}
+use Rattle.verdicts.specs.Verdict.{verdictOf, connHeard, entryHeard, settledOf, judgedOf}
 use Rattle.limits.specs.Fits.{isFresh, entryFitsAs, openFit, connFits, sumTo, allTo, fits}
 use Rattle.steps.specs.Gate.{gateOf}
 use Rattle.steps.specs.Opening.{openingWhen, entriesOf}

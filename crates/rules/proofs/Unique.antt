@@ -2,8 +2,23 @@
 -- Assumes nothing.
 use Rattle.answers.specs.Firm.{FirmAnswer}
 use Rattle.answers.proofs.Firm.{equation}
-use Rattle.rules.proofs.verdict.judge.Kinds as judge
-use Rattle.rules.proofs.verdict.judge.Reads as judge-reads
+use Rattle.rules.proofs.ends.Kinds as ends
+use Rattle.rules.proofs.ends.Reads as ends-reads
+use Rattle.rules.proofs.blocked.Kinds as blocked
+use Rattle.rules.proofs.blocked.Reads as blocked-reads
+use Rattle.rules.proofs.for_sender.Kinds as for-sender
+use Rattle.rules.proofs.for_sender.Reads as for-sender-reads
+use Rattle.rules.proofs.growth.Kinds as growth
+use Rattle.rules.proofs.growth.Reads as growth-reads
 
-pub judge-firm : FirmAnswer 0 judge.ps judge.r judge-reads.Asked judge-reads.Post
-judge-firm = equation
+pub ends-firm : FirmAnswer 0 ends.ps ends.r ends-reads.Asked ends-reads.Post
+ends-firm = equation
+
+pub blocked-firm : FirmAnswer 0 blocked.ps blocked.r blocked-reads.Asked blocked-reads.Post
+blocked-firm = equation
+
+pub for-sender-firm : FirmAnswer 0 for-sender.ps for-sender.r for-sender-reads.Asked for-sender-reads.Post
+for-sender-firm = equation
+
+pub growth-firm : FirmAnswer 0 growth.ps growth.r growth-reads.Asked growth-reads.Post
+growth-firm = equation

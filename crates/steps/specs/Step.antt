@@ -12,12 +12,12 @@ use Rattle.frames.specs.Reading.{frameAt}
 use Rattle.streams.specs.declared.Conn.{Conn}
 use Rattle.streams.specs.declared.Entry.{Entry}
 use Rattle.streams.specs.declared.Mark.the-variants.{Code}
-use Rattle.rules.specs.declared.Judged.{Judged}
+use Rattle.verdicts.specs.declared.Judged.{Judged}
 use Rattle.views.specs.declared.View.the-variants.{Nothing}
 use Rattle.streams.specs.Conn.{isOpen, markedAs}
 use Rattle.answers.specs.Answers.{accepts}
 use Rattle.views.specs.View.{viewOf, framePlace}
-use Rattle.rules.specs.Verdict.{judgedOf}
+use Rattle.verdicts.specs.Verdict.{judgedOf}
 use Rattle.steps.specs.declared.Request.{Request}
 use Rattle.steps.specs.declared.Decided.{Decided}
 use Rattle.steps.specs.declared.Shown.{Shown}

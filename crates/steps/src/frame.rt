@@ -10,10 +10,10 @@ use crate::Stepped;
 use answers::Answer;
 use frames::Kind;
 use frames::Reading;
-use rules::Judged;
 use streams::Conn;
 use streams::Entry;
 use streams::Mark;
+use verdicts::Judged;
 use views::View;
 use wire::Number;
 
@@ -83,7 +83,7 @@ pub fn decide(c: Conn, e: Entry, a: Request) -> Decided
             a.next,
         );
     };
-    decided(rules::verdict::judge(c, e, a.ty, view), a.next)
+    decided(verdicts::judge(c, e, a.ty, view), a.next)
 }
 
 // The first place from `at` on that holds no PADDING, if the connection is open. Each PADDING byte is a frame that changes

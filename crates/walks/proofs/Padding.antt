@@ -20,7 +20,7 @@ use Rattle.views.specs.declared.View.the-variants.{Nothing}
 use Rattle.halves.specs.Stream.{placeOf}
 use Rattle.streams.specs.Entry.{fresh, entryAt}
 use Rattle.streams.specs.Conn.{isOpen}
-use Rattle.rules.specs.Verdict.{verdictOf, connHeard, entryHeard, settledOf, judgedOf}
+use Rattle.verdicts.specs.Verdict.{verdictOf, connHeard, entryHeard, settledOf, judgedOf}
 use Rattle.steps.specs.declared.Stopped.{Stopped}
 use Rattle.steps.specs.declared.Decided.{Decided}
 use Rattle.steps.specs.Step.{requestOf, requestAt, decidedOf}

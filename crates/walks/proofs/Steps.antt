@@ -19,7 +19,7 @@ use Rattle.streams.specs.declared.Entry.{Entry}
 use Rattle.streams.specs.Entry.{entryAt}
 use Rattle.streams.specs.Conn.{isOpen}
 use Rattle.answers.specs.Answers.{accepts}
-use Rattle.rules.specs.Verdict.{settledOf, judgedOf}
+use Rattle.verdicts.specs.Verdict.{settledOf, judgedOf}
 use Rattle.steps.specs.declared.Request.{Request}
 use Rattle.steps.specs.Step.{requestOf, requestAt, decidedOf}
 use Rattle.tables.proofs.Long.{place-within}
