@@ -29,12 +29,13 @@ use Rattle.frames.specs.declared.Reading.the-variants.{Got}
 use Rattle.contents.specs.Parts.{partsOf}
 use Rattle.contents.specs.Content.{bodyOf, tokenOf, insideOf, contentOf, contents}
 use Rattle.contents.specs.Taken.{takes}
-use Rattle.writing.specs.Spelled.{fourBytes, bodyBytes, spelledFrame}
+use Rattle.sizes.specs.Spelled.{fourBytes, bodyBytes, spelledFrame}
 use Rattle.contents.specs.Again.{first, atIn, tokenIn, moved, again}
 use Rattle.contents.proofs.Settled.{settled}
 use Rattle.contents.proofs.Taking.{taken, Low, low}
-use Rattle.writing.proofs.Spelling.{range-four, spelled-length}
-use Rattle.writing.proofs.Bounds.{type-known}
+use Rattle.sizes.proofs.Spelling.{spelled-length}
+use Rattle.writing.proofs.Spelling.{range-four}
+use Rattle.sizes.proofs.Bounds.{type-known}
 use Rattle.roundtrip.proofs.Standing.{numbers-back}
 use Rattle.roundtrip.proofs.Found.{Writable, FoundAgain, body-back}
 

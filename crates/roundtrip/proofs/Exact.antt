@@ -20,8 +20,8 @@ use Rattle.frames.specs.declared.Reading.the-variants.{Got}
 use Rattle.contents.specs.Parts.{partsOf}
 use Rattle.contents.specs.Content.{Content, contents}
 use Rattle.contents.specs.Taken.{takes}
-use Rattle.writing.specs.Spelled.{spelledFrame, frameDraft}
-use Rattle.writing.proofs.Spelling.{writable, unwritable}
+use Rattle.sizes.specs.Spelled.{spelledFrame, frameDraft}
+use Rattle.sizes.proofs.Spelling.{writable, unwritable}
 use Rattle.roundtrip.specs.Readable.{ReadsAs, Readable}
 use Rattle.roundtrip.proofs.Back.{read-back}
 use Rattle.roundtrip.proofs.Readers.{read-taken}

@@ -28,9 +28,9 @@ use Rattle.fields.specs.declared.Parts.{Parts}
 use Rattle.layouts.proofs.Places.{sized-is, identity-is}
 use Rattle.contents.specs.Content.{bodyOf, tokenOf, insideOf}
 use Rattle.contents.specs.Taken.{fitting}
-use Rattle.writing.specs.Spelled.{bodyBytes}
+use Rattle.sizes.specs.Spelled.{bodyBytes}
 use Rattle.contents.specs.Again.{atIn, lenIn, tokenIn, movedIn, ended}
-use Rattle.writing.proofs.Bodies.{within, wholly, part-length}
+use Rattle.sizes.proofs.Bodies.{within, wholly, part-length}
 use Rattle.roundtrip.proofs.Standing.{slice-stands}
 
 -- what a writer knows of a body: its places lie inside s, its length is in range and the one that its tail has, and its runs fit

@@ -36,8 +36,8 @@ use Rattle.frames.specs.Reading.{anyFrameAt}
 use Rattle.frames.specs.Sound.{FieldsRead}
 use Rattle.frames.proofs.Sound.{fields-got, any-got}
 use Rattle.ranges.proofs.Sound.{with-ranges}
-use Rattle.writing.proofs.Bodies.{wholly}
-use Rattle.writing.proofs.Bounds.{identity-short}
+use Rattle.sizes.proofs.Bodies.{wholly}
+use Rattle.sizes.proofs.Bounds.{identity-short}
 use Rattle.contents.proofs.Taking.{fine}
 use Rattle.contents.specs.Parts.{streamType, wayType, holdingParts, partsOf}
 use Rattle.contents.specs.Content.{bodyOf, tokenInside, insideOf, contentOf, contents}

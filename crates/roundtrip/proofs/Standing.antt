@@ -18,7 +18,7 @@ use Rattle.wire.proofs.Exit.{length-bytes}
 use Rattle.row.specs.Row.{inRange, bytesAll}
 use Rattle.layouts.specs.Body.{optionalAt, numbersAt}
 use Rattle.layouts.specs.declared.Numbers.the-variants.{Are}
-use Rattle.writing.specs.Spelled.{fourBytes}
+use Rattle.sizes.specs.Spelled.{fourBytes}
 use Rattle.contents.specs.Again.{first}
 use Rattle.contents.proofs.Ones.{four-in-range}
 

@@ -1,6 +1,4 @@
-pub mod Bounds
-pub mod Bodies
-pub mod Copies
 pub mod Listing
+pub mod Slices
 pub mod Spelling
 pub mod Unique

@@ -5,56 +5,26 @@ ghost use mathlib.Core.Path.{_≡_};
 ghost use mathlib.Core.Bool.{true};
 ghost use Prim.Native.Nat.{_+_, _≤_, _<_, _^_};
 ghost use lib.ListN.{length};
-ghost use lib.Seq.{sets};
 ghost use Rattle.contents.specs.Content.{contentOf, contents};
 ghost use Rattle.contents.specs.Taken.{takes};
-ghost use Rattle.writing.specs.Spelled.{placeAfter, spelledFrame, frameDraft};
-ghost use Rattle.wire.specs.Writing.{writes};
+ghost use Rattle.sizes.specs.Spelled.{spelledFrame, frameDraft};
+ghost use Rattle.wire.specs.Writing.{Bytes, writes};
 use answers::Answer;
 use fields::Parts;
 use frames::Frame;
+use sizes::Measured;
 use wire::Wrote;
 
-// The place after what was written, 0 after a refusal.
-pub(crate) fn past(wrote: Wrote) -> usize
-    ensures { λ r. ⌜ r ≡ placeAfter wrote ⌝ }
-{
-    match wrote {
-        Wrote::To { next } => next,
-        Wrote::Refused { answer: _ } => 0,
-    }
-}
-
-// How many bytes a frame that can be written has.
-fn size(p: Parts, s: &[u8]) -> usize
-    requires { ⌜ takes (contentOf (now s) p) ≡ true ⌝ }
-    ensures { λ r. ⌜ r ≡ length (spelledFrame (contentOf (now (s .entry)) p)) ⌝ }
-{
-    let l = layouts::table::find(p.ty);
-    let tail = l.tail;
-    let numbers = [p.a, p.b, p.c, p.d];
-    let after = [p.x, p.y, p.z, 0];
-    let n = l.numbers as usize;
-    let m = l.after as usize;
-    let front = wire::size(p.ty) + row::size(&numbers[..n]);
-    front + pieces::size(tail, p, s) + row::size(&after[..m])
-}
-
-// Writes a frame that can be written at a place with room for it.
-fn put(p: Parts, s: &[u8], out: &mut [u8], at: usize) -> usize
+// Writes a frame that can be written at a place with room for it: its type and numbers, its body, the numbers after it.
+fn put(p: Parts, s: &[u8], out: &mut [u8], at: usize) -> Wrote
     requires { ⌜ (p .ty < 2 ^ 62) × (takes (contentOf (now s) p) ≡ true) × (at + length (spelledFrame (contentOf (now s) p)) ≤ length (now out)) ⌝ }
-    ensures { λ r. ⌜ (r ≡ at + length (spelledFrame (contentOf (now (s .entry)) p))) × (now (out .exit) ≡ sets (now (out .entry)) at (spelledFrame (contentOf (now (s .entry)) p))) ⌝ }
+    ensures { λ r. ⌜ (r, now (out .exit)) ≡ writes (Bytes (spelledFrame (contentOf (now (s .entry)) p))) (now (out .entry)) at ⌝ }
 {
     let l = layouts::table::find(p.ty);
     let tail = l.tail;
-    let numbers = [p.a, p.b, p.c, p.d];
-    let after = [p.x, p.y, p.z, 0];
-    let n = l.numbers as usize;
-    let m = l.after as usize;
-    let o = past(wire::write(out, at, p.ty));
-    let q = past(row::write(out, o, &numbers[..n]));
-    let r = pieces::put(tail, p, s, out, q);
-    past(row::write(out, r, &after[..m]))
+    let q = bodies::past(bodies::front(out, at, p));
+    let r = bodies::past(pieces::put(tail, p, s, out, q));
+    bodies::back(out, r, p)
 }
 
 // Writes a frame at a place. A refusal leaves the output untouched.
@@ -62,22 +32,20 @@ pub fn write(frame: Frame, s: &[u8], out: &mut [u8], at: usize) -> Wrote
     ensures { λ r. ⌜ (r, now (out .exit)) ≡ writes (frameDraft (contents (now (s .entry)) frame)) (now (out .entry)) at ⌝ }
 {
     let p = contents::split::apart(frame);
-    if !contents::checks::writable(p, s) {
+    let Measured::Is { bytes } = sizes::measure(p, s) else {
         return Wrote::Refused {
             answer: Answer::Unwritable,
         };
-    }
+    };
     if out.len() < at {
         return Wrote::Refused {
             answer: Answer::NoRoom,
         };
     }
-    if out.len() - at < size(p, s) {
+    if out.len() - at < bytes {
         return Wrote::Refused {
             answer: Answer::NoRoom,
         };
     }
-    Wrote::To {
-        next: put(p, s, out, at),
-    }
+    put(p, s, out, at)
 }

@@ -3,7 +3,8 @@
 use mathlib.Core.Path.{refl, sym, _∙_}
 use borrow.Author.Needs.{needs}
 use Rattle.ranges.specs.Listed.{listed}
-use Rattle.writing.proofs.Listing.{Left, never-refused, turn, finished, listed-none, listed-cut}
+use Rattle.sizes.proofs.Listing.{listed-none, listed-cut}
+use Rattle.writing.proofs.Listing.{Left, turn, finished}
 use Rattle.writing.proofs.pieces.put_listed.Statement.{statement}
 use Rattle.writing.proofs.pieces.put_listed.Tie as tie
 
@@ -26,27 +27,14 @@ returns c =
     let l = r .before .before .loop in
     finished _ _ _ _ _ _ _ _ (l .inv) (listed-cut _ _ (l .left) (sym (r .read .ensures) ∙ c .enum-told .given .1))
 
--- the number is written
-same-length-2 : tie.Need-same-length-2 Inv-loop μ-loop
-same-length-2 c =
-    let w = c .before .before .before .before in
+loop-again : tie.Need-loop-again Inv-loop μ-loop
+loop-again c =
+    let w = c .before .before .before in
     let r = w .before .before .before .before .before in
-    absurd (never-refused _ _ _ _ _ _ _ _ (r .before .before .loop .inv) (r .before .loop-test .taken) (sym (r .read .ensures) ∙ w .before .before .before .value .given .1) (w .write .ensures) (c .enum-told2 .given .1))
+    turn _ _ _ _ _ _ _ _ (r .before .before .loop .inv) (r .before .loop-test .taken) (sym (r .read .ensures) ∙ w .before .before .before .value .given .1) (w .write .ensures) (c .past .ensures)
 
 returns-2 : tie.Need-returns-2 Inv-loop μ-loop
 returns-2 c =
-    let w = c .before .before .before .before in
-    let r = w .before .before .before .before .before in
-    absurd (never-refused _ _ _ _ _ _ _ _ (r .before .before .loop .inv) (r .before .loop-test .taken) (sym (r .read .ensures) ∙ w .before .before .before .value .given .1) (w .write .ensures) (c .enum-told2 .given .1))
-
-loop-again : tie.Need-loop-again Inv-loop μ-loop
-loop-again c =
-    let w = c .before .before .before .before .before in
-    let r = w .before .before .before .before .before in
-    turn _ _ _ _ _ _ _ _ (r .before .before .loop .inv) (r .before .loop-test .taken) (sym (r .read .ensures) ∙ w .before .before .before .value .given .1) (w .write .ensures) (c .before .after .given .1)
-
-returns-3 : tie.Need-returns-3 Inv-loop μ-loop
-returns-3 c =
     let l = c .before .loop in
     finished _ _ _ _ _ _ _ _ (l .inv) (listed-none _ _ (l .left) (c .loop-test .left))
 
@@ -63,12 +51,9 @@ put-listed-spec =
     same-length
     returns
     (λ c κs. search needs)
-    (λ c. search needs)
-    (λ c. search needs)
-    same-length-2
-    returns-2
+    (λ c κs. search needs)
     (λ c. search needs)
     (λ c. search needs)
     loop-again
     (λ c. c .before .loop .inv .long)
-    returns-3)
+    returns-2)

@@ -1,4 +1,4 @@
--- `writing::pieces::size` meets its contract: each arm counts the bytes that the definition gives for its tail.
+-- `sizes::pieces::size` meets its contract: each arm counts the bytes that the definition gives for its tail.
 -- Assumes nothing.
 use mathlib.Core.Path.{refl, sym, _∙_}
 use native.Mathlib.Omega.{arith}
@@ -7,9 +7,9 @@ use borrow.Author.Tests.{leb-true}
 use denote.Ref.{now}
 use Rattle.wire.proofs.Exit.{size-bounds}
 use Rattle.row.proofs.Back.{length-all}
-use Rattle.writing.proofs.Bodies.{within, part-length, counted-length, identity-length}
-use Rattle.writing.proofs.pieces.size.Statement.{statement}
-use Rattle.writing.proofs.pieces.size.Tie as tie
+use Rattle.sizes.proofs.Bodies.{within, part-length, counted-length, identity-length}
+use Rattle.sizes.proofs.pieces.size.Statement.{statement}
+use Rattle.sizes.proofs.pieces.size.Tie as tie
 
 add-result : tie.Need-add-result
 add-result c =

@@ -1,4 +1,4 @@
--- `writing::pieces::listed_size` meets its contract: the total and the size of those from the place on are the size of all, which is no more than the slice.
+-- `sizes::pieces::listed_size` meets its contract: the total and the size of those from the place on are the size of all, which is no more than the slice.
 -- Assumes nothing.
 use mathlib.Core.Path.{_≡_, sym, _∙_}
 use Prim.Native.Nat.{_≤_, _+_}
@@ -8,9 +8,9 @@ use lib.ListN.{length}
 use Rattle.row.specs.Row.{sizeAll}
 use Rattle.ranges.specs.Listed.{listed}
 use Rattle.ranges.proofs.Listed.{listed-size}
-use Rattle.writing.proofs.Listing.{listed-none, listed-cut, size-more}
-use Rattle.writing.proofs.pieces.listed_size.Statement.{statement}
-use Rattle.writing.proofs.pieces.listed_size.Tie as tie
+use Rattle.sizes.proofs.Listing.{listed-none, listed-cut, size-more}
+use Rattle.sizes.proofs.pieces.listed_size.Statement.{statement}
+use Rattle.sizes.proofs.pieces.listed_size.Tie as tie
 
 abbrev Inv-loop : tie.InvT-loop
 Inv-loop s from n total₀ place₀ left₀ total place left = (total + sizeAll (listed s place left) ≡ sizeAll (listed s from n)) × (sizeAll (listed s from n) ≤ length s)

@@ -8,8 +8,6 @@ use Rattle.answers.specs.Choice.{_⇒_∣_}
 use Rattle.answers.specs.declared.Answer.the-variants.{Unwritable}
 use Rattle.wire.specs.Number.{bytesOf}
 use Rattle.wire.specs.Writing.{Draft, Bytes, Never}
-use Rattle.wire.specs.declared.Wrote.{Wrote}
-use Rattle.wire.specs.declared.Wrote.the-variants.{To, Refused}
 use Rattle.row.specs.Row.{bytesAll}
 use Rattle.layouts.specs.Layout.{layoutOf}
 use Rattle.fields.specs.declared.Parts.{Parts}
@@ -17,11 +15,6 @@ use Rattle.layouts.specs.declared.Tail.{Tail}
 use Rattle.layouts.specs.declared.Tail.the-variants.{Nothing, Counted, Remainder, Eight, Identity, Ranges}
 use Rattle.contents.specs.Content.{Content, insideOf}
 use Rattle.contents.specs.Taken.{takes}
-
--- the place after what was written, 0 after a refusal
-unfoldable pub placeAfter : Wrote → ℕ
-placeAfter (To next) = next
-placeAfter (Refused answer) = 0
 
 -- the first n of four numbers
 unfoldable pub fourBytes : ℕ → ℕ → ℕ → ℕ → ℕ → List ℕ

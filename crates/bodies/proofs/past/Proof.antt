@@ -1,9 +1,9 @@
--- `writing::past` meets its contract: the match is the definition's.
+-- `bodies::past` meets its contract: the match is the definition's.
 -- Assumes nothing.
 use borrow.Author.Needs.{needs}
-use Rattle.writing.specs.Spelled.{placeAfter}
-use Rattle.writing.proofs.past.Statement.{statement}
-use Rattle.writing.proofs.past.Tie as tie
+use Rattle.bodies.specs.Bodies.{placeAfter}
+use Rattle.bodies.proofs.past.Statement.{statement}
+use Rattle.bodies.proofs.past.Tie as tie
 
 returns : tie.Need-returns
 unfolding placeAfter

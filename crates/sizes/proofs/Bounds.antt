@@ -19,7 +19,7 @@ use Rattle.layouts.specs.declared.Tail.the-variants.{Nothing, Counted, Remainde
 use Rattle.contents.specs.Parts.{partsOf}
 use Rattle.contents.specs.Content.{contentOf}
 use Rattle.contents.specs.Taken.{takes}
-use Rattle.writing.specs.Spelled.{InByte, Bounded}
+use Rattle.sizes.specs.Spelled.{InByte, Bounded}
 use Rattle.contents.proofs.Taking.{taken, low}
 use Rattle.contents.proofs.Settled.{settled}
 

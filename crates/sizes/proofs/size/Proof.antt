@@ -1,4 +1,4 @@
--- `writing::size` meets its contract: the bytes of a frame are as many as those of its pieces together, and too few to overflow.
+-- `sizes::size` meets its contract: the bytes of a frame are as many as those of its pieces together, and too few to overflow.
 -- Assumes nothing.
 use mathlib.Core.Path.{_≡_, sym}
 use native.Mathlib.Omega.{arith}
@@ -6,10 +6,10 @@ use borrow.Author.Needs.{needs}
 use lib.Seq.{length-take-le}
 use Rattle.wire.proofs.Exit.{size-bounds}
 use Rattle.contents.specs.Content.{contentOf}
-use Rattle.writing.proofs.Bounds.{bounded, at-most-four}
-use Rattle.writing.proofs.Spelling.{spelled-length, four-size}
-use Rattle.writing.proofs.size.Statement.{statement}
-use Rattle.writing.proofs.size.Tie as tie
+use Rattle.sizes.proofs.Bounds.{bounded, at-most-four}
+use Rattle.sizes.proofs.Spelling.{spelled-length, four-size}
+use Rattle.sizes.proofs.size.Statement.{statement}
+use Rattle.sizes.proofs.size.Tie as tie
 
 array-share-prefix-numbers : tie.Need-array-share-prefix-numbers
 array-share-prefix-numbers c =

@@ -1,0 +1,3 @@
+pub mod Drafts
+pub mod Joined
+pub mod Unique

@@ -1,0 +1,6 @@
+pub mod Bounds
+pub mod Bodies
+pub mod Listing
+pub mod Spelling
+pub mod Measuring
+pub mod Unique
