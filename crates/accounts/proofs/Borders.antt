@@ -2,14 +2,15 @@
 -- Assumes nothing.
 use mathlib.Core.Path.{refl}
 use Rattle.halves.specs.Stream.{idOf}
-use Rattle.streams.specs.Entry.{finalOf}
+use Rattle.entries.specs.Entry.{finalOf}
 use Rattle.streams.specs.Conn.{countOf, handedOutOf}
 use Rattle.streams.specs.Opening.{limitsFit, openingOf}
 use Rattle.views.specs.View.{endOf}
 use Rattle.rules.specs.Rules.{rule1, rule2, blockedOf, forSenderOf}
 use Rattle.verdicts.specs.Verdict.{verdictOf, connHeard}
 use Rattle.calls.specs.Calls.{raiseOf, replyOf, settledOf, ruledOf, repliedOf}
-use Rattle.limits.specs.Fits.{isFresh, entryFitsAs, openFit, connFits, summedOf, concludedOf}
+use Rattle.limits.specs.Fits.{openFit, connFits, summedOf, concludedOf}
+use Rattle.entries.specs.Fitting.{isFresh, entryFitsAs}
 use Rattle.accounts.specs.Borders.{Borders}
 
 pub borders : Borders

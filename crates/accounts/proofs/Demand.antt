@@ -13,11 +13,11 @@ use Rattle.answers.specs.Choice.{_⇒_∣_}
 use Rattle.answers.specs.declared.Answer.{Answer}
 use Rattle.answers.specs.declared.Answer.the-variants.{Accepted, FlowControl, StreamLimit, StreamState, FinalSize}
 use Rattle.streams.specs.declared.Conn.{Conn}
-use Rattle.streams.specs.declared.Entry.{Entry}
+use Rattle.entries.specs.declared.Entry.{Entry}
 use Rattle.streams.specs.declared.Limits.{Limits}
 use Rattle.streams.specs.declared.Mark.the-variants.{Open}
 use Rattle.halves.specs.Stream.{streamOf, halfOf, receives, placeOf}
-use Rattle.streams.specs.Entry.{finalOf, entryAt, entryOf}
+use Rattle.entries.specs.Entry.{finalOf, entryAt, entryOf}
 use Rattle.streams.specs.Conn.{isOpen, openedOf, countOf}
 use Rattle.views.specs.declared.View.the-variants.{Ends}
 use Rattle.rules.specs.Rules.{rule1, rule2, rule3, rule4, rule5, endsOf}

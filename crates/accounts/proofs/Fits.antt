@@ -12,14 +12,15 @@ use lib.Seq.{getD-set-same, getD-set-other}
 use lib.Dec.{ltb, leb, eqb}
 use borrow.Author.Tests.{lt-ltb, le-ltb, le-leb, eq-eqb, ltb-true, leb-true, eqb-true}
 use Rattle.streams.specs.declared.Conn.{Conn}
-use Rattle.streams.specs.declared.Entry.{Entry}
-use Rattle.streams.specs.declared.Final.{Final}
-use Rattle.streams.specs.declared.Final.the-variants.{Unknown, Known}
+use Rattle.entries.specs.declared.Entry.{Entry}
+use Rattle.entries.specs.declared.Final.{Final}
+use Rattle.entries.specs.declared.Final.the-variants.{Unknown, Known}
 use Rattle.halves.specs.Stream.{mostStreams}
-use Rattle.streams.specs.Entry.{mostCredit, finalOf, isKnown, fresh, entryAt}
+use Rattle.entries.specs.Entry.{mostCredit, finalOf, isKnown, fresh, entryAt}
 use Rattle.streams.specs.Conn.{openedOf, countOf, initialOf}
 use Rattle.streams.specs.Opening.{limitsFit}
-use Rattle.limits.specs.Fits.{sizeFits, isFresh, entryFits, entryFitsAs, openFit, connFits, sumTo, allTo, fits}
+use Rattle.limits.specs.Fits.{entryFits, openFit, connFits, sumTo, allTo, fits}
+use Rattle.entries.specs.Fitting.{sizeFits, isFresh, entryFitsAs}
 use Rattle.answers.proofs.Distinct.{impossible}
 use Rattle.accounts.proofs.Tests.{size-none}
 use Rattle.accounts.proofs.Sums.{all-of, sum-at}

@@ -14,12 +14,12 @@ use Rattle.answers.specs.Choice.{_⇒_∣_}
 use Rattle.answers.specs.declared.Answer.the-variants.{Accepted, AboveCeiling}
 use Rattle.answers.proofs.Distinct.{impossible}
 use Rattle.streams.specs.declared.Conn.{Conn}
-use Rattle.streams.specs.declared.Entry.{Entry}
-use Rattle.streams.specs.declared.Final.the-variants.{Known}
+use Rattle.entries.specs.declared.Entry.{Entry}
+use Rattle.entries.specs.declared.Final.the-variants.{Known}
 use Rattle.streams.specs.declared.Limits.{Limits}
 use Rattle.streams.specs.declared.Mark.the-variants.{Open}
 use Rattle.halves.specs.Stream.{mostStreams, placeOf}
-use Rattle.streams.specs.Entry.{mostCredit, finalOf, fresh, reached, credited, entryAt, entryOf}
+use Rattle.entries.specs.Entry.{mostCredit, finalOf, fresh, reached, credited, entryAt, entryOf}
 use Rattle.streams.specs.Conn.{initialOf, openedOf, countOf}
 use Rattle.streams.specs.Opening.{limitsFit, openedConn, unopenedOf, openingOf}
 use Rattle.views.specs.declared.View.the-variants.{Ends, Blocks, ForSender, Acks, Closes, Nothing}

@@ -16,14 +16,14 @@ use Rattle.answers.specs.declared.Answer.the-variants.{Accepted, StreamLimit, S
 use Rattle.answers.proofs.Accepts.{passed}
 use Rattle.answers.proofs.Distinct.{impossible}
 use Rattle.streams.specs.declared.Conn.{Conn}
-use Rattle.streams.specs.declared.Entry.{Entry}
-use Rattle.streams.specs.declared.Final.{Final}
-use Rattle.streams.specs.declared.Final.the-variants.{Known}
+use Rattle.entries.specs.declared.Entry.{Entry}
+use Rattle.entries.specs.declared.Final.{Final}
+use Rattle.entries.specs.declared.Final.the-variants.{Known}
 use Rattle.streams.specs.declared.Mark.{Mark}
 use Rattle.streams.specs.declared.Mark.the-variants.{ByPeer}
 use Rattle.streams.specs.declared.Space.{Space}
 use Rattle.halves.specs.Stream.{streamOf, halfOf, ordinalOf, idOf, peers, receives, sends, mostStreams, placeOf}
-use Rattle.streams.specs.Entry.{mostCredit, finalOf, isKnown, fresh, reached, credited, entryOf}
+use Rattle.entries.specs.Entry.{mostCredit, finalOf, isKnown, fresh, reached, credited, entryOf}
 use Rattle.streams.specs.Conn.{isOpen, markedAs, limitedTo, advertisedOf, initialOf, withCredit, withCount, openedOf, countOf, openTo, handedOn}
 use Rattle.views.specs.declared.View.the-variants.{Ends, Blocks, ForSender, Acks, Closes, Nothing}
 use Rattle.rules.specs.Rules.{rule1, rule2, against, rule3, endsOf, blockedOf, forSenderOf}

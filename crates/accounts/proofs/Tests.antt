@@ -9,9 +9,9 @@ use lib.Dec.{ltb, eqb}
 use borrow.Author.Tests.{lt-ltb, ne-eqb, ltb-true, eqb-true}
 use Rattle.answers.specs.Choice.{_⇒_∣_}
 use Rattle.answers.proofs.Distinct.{impossible}
-use Rattle.streams.specs.declared.Final.the-variants.{Unknown, Known}
+use Rattle.entries.specs.declared.Final.the-variants.{Unknown, Known}
 use Rattle.halves.specs.Stream.{listed, placeOf}
-use Rattle.streams.specs.Entry.{finalOf}
+use Rattle.entries.specs.Entry.{finalOf}
 
 -- ---- connectives
 

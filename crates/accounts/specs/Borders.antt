@@ -7,12 +7,12 @@ use Rattle.answers.specs.Answers.{numberOf}
 use Rattle.frames.specs.declared.Kind.the-variants.{Initial as Initial', Handshake as Handshake', ZeroRtt, OneRtt}
 use Rattle.frames.specs.declared.Frame.the-variants.{Ack, AckEcn, ResetStream, StopSending, Stream, MaxData, MaxStreamData, StreamDataBlocked, ConnectionClose, ApplicationClose}
 use Rattle.streams.specs.declared.Conn.{Conn}
-use Rattle.streams.specs.declared.Entry.{Entry}
+use Rattle.entries.specs.declared.Entry.{Entry}
 use Rattle.streams.specs.declared.Limits.{Limits}
 use Rattle.streams.specs.declared.Mark.{Mark}
 use Rattle.streams.specs.declared.Mark.the-variants.{Open, ByPeer}
 use Rattle.streams.specs.declared.Space.the-variants.{Initial, Handshake, Application}
-use Rattle.streams.specs.Entry.{fresh}
+use Rattle.entries.specs.Entry.{fresh}
 use Rattle.streams.specs.Conn.{openedOf, handedOutOf}
 use Rattle.streams.specs.Opening.{openedConn, openingOf}
 use Rattle.views.specs.declared.View.{View}

@@ -9,14 +9,14 @@ use Rattle.answers.specs.Choice.{_⇒_∣_}
 use Rattle.answers.specs.declared.Answer.{Answer}
 use Rattle.answers.specs.declared.Answer.the-variants.{Accepted, FlowControl, StreamLimit, StreamState, FinalSize, Closed, DoesNotFit}
 use Rattle.streams.specs.declared.Conn.{Conn}
-use Rattle.streams.specs.declared.Entry.{Entry}
-use Rattle.streams.specs.declared.Final.{Final}
-use Rattle.streams.specs.declared.Final.the-variants.{Unknown, Known}
+use Rattle.entries.specs.declared.Entry.{Entry}
+use Rattle.entries.specs.declared.Final.{Final}
+use Rattle.entries.specs.declared.Final.the-variants.{Unknown, Known}
 use Rattle.streams.specs.declared.Limits.{Limits}
 use Rattle.streams.specs.declared.Mark.the-variants.{Open}
 use Rattle.streams.specs.declared.Space.{Space}
 use Rattle.halves.specs.Stream.{streamOf, halfOf, ordinalOf, receives, mostStreams, entries, listed, placeOf}
-use Rattle.streams.specs.Entry.{fresh, entryOf}
+use Rattle.entries.specs.Entry.{fresh, entryOf}
 use Rattle.streams.specs.Conn.{isOpen, initialOf, countOf, handedOn, handedOutOf}
 use Rattle.streams.specs.Opening.{openedConn, openingOf}
 use Rattle.views.specs.declared.View.{View}

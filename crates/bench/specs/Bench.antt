@@ -15,7 +15,7 @@ use Rattle.records.specs.declared.Record.{Record}
 use Rattle.records.specs.Marks.{noneOf}
 use Rattle.records.specs.Ring.{takenOf}
 use Rattle.halves.specs.Stream.{entries}
-use Rattle.streams.specs.Entry.{fresh}
+use Rattle.entries.specs.Entry.{fresh}
 use Rattle.streams.specs.Small.{small}
 use Rattle.demands.specs.Hosts.{Host, answered, acted, hosted}
 use Rattle.demands.specs.Hosts.Act.{TakeFrame}

@@ -5,9 +5,9 @@ use lib.ListN.{replicate}
 use Prim.Native.Nat.{ℕ}
 use Rattle.answers.specs.Answers.{numberOf}
 use Rattle.frames.specs.declared.Kind.the-variants.{OneRtt}
-use Rattle.streams.specs.declared.Entry.{Entry}
+use Rattle.entries.specs.declared.Entry.{Entry}
 use Rattle.halves.specs.Stream.{entries}
-use Rattle.streams.specs.Entry.{fresh}
+use Rattle.entries.specs.Entry.{fresh}
 use Rattle.streams.specs.Conn.{withCredit}
 use Rattle.streams.specs.Small.{small}
 use Rattle.demands.specs.Hosts.{Act, answered, hostAfter}

@@ -7,10 +7,10 @@ use Rattle.answers.specs.Answers.{accepts}
 use Rattle.answers.specs.declared.Answer.{Answer}
 use Rattle.answers.specs.declared.Answer.the-variants.{Accepted, Closed, NotAbove, AboveCeiling, NotServed, SizeKnown}
 use Rattle.halves.specs.Stream.{halfOf, ordinalOf, idOf, peers, receives, mostStreams}
-use Rattle.streams.specs.Entry.{mostCredit, finalOf, isKnown, credited}
+use Rattle.entries.specs.Entry.{mostCredit, finalOf, isKnown, credited}
 use Rattle.streams.specs.Conn.{isOpen, limitedTo, withCredit, withCount, openedOf, countOf, openTo}
 use Rattle.streams.specs.declared.Conn.{Conn}
-use Rattle.streams.specs.declared.Entry.{Entry}
+use Rattle.entries.specs.declared.Entry.{Entry}
 use Rattle.calls.specs.declared.Call.{Call}
 use Rattle.calls.specs.declared.Call.the-variants.{RaiseCredit, RaiseStream, RaiseCount, OpenNext}
 use Rattle.calls.specs.declared.Replied.{Replied}

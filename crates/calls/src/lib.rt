@@ -2,15 +2,15 @@
 // by value. Handing out a packet number is none of them: it looks at neither the table nor the closing mark.
 ghost use mathlib.Core.Path.{_≡_};
 ghost use Rattle.halves.specs.Stream.{halfOf, placeOf};
-ghost use Rattle.streams.specs.Entry.{isKnown};
+ghost use Rattle.entries.specs.Entry.{isKnown};
 ghost use Rattle.streams.specs.Conn.{limitedTo, withCount};
 ghost use Rattle.calls.specs.Calls.{raiseOf, replyOf, nextOf, streamIn, settledOf, ruledOf, repliedOf};
 use answers::Answer;
+use entries::Entry;
+use entries::Final;
 use halves::Stream;
 use streams::Called;
 use streams::Conn;
-use streams::Entry;
-use streams::Final;
 
 // A local call. A type is that on the wire.
 pub enum Call {

@@ -21,7 +21,7 @@ use Rattle.records.specs.Ring.{takenOf}
 use Rattle.records.proofs.None.{none-fits}
 use Rattle.records.proofs.Taking.{can-be, leaves, still-fits}
 use Rattle.streams.specs.declared.Conn.{Conn}
-use Rattle.streams.specs.declared.Entry.{Entry}
+use Rattle.entries.specs.declared.Entry.{Entry}
 use Rattle.streams.specs.declared.Called.{Called}
 use Rattle.verdicts.specs.declared.Judged.{Judged}
 use Rattle.streams.specs.declared.Mark.{Mark}
@@ -30,7 +30,7 @@ use Rattle.streams.specs.declared.Space.the-variants.{Initial, Handshake, Appli
 use Rattle.views.specs.declared.View.{View}
 use Rattle.views.specs.declared.View.the-variants.{Ends, Blocks, ForSender, Acks, Closes, Nothing}
 use Rattle.halves.specs.Stream.{streamOf, halfOf, ordinalOf, peers, receives, sends, mostStreams}
-use Rattle.streams.specs.Entry.{mostCredit, finalOf, isKnown, entryAt}
+use Rattle.entries.specs.Entry.{mostCredit, finalOf, isKnown, entryAt}
 use Rattle.streams.specs.Conn.{isOpen, openedOf, countOf, nextOf, handedOutOf, spaceOf}
 use Rattle.rules.specs.Rules.{rule1, rule2, rule3, rule4, rule5, endsOf, blockedOf, forSenderOf}
 use Rattle.verdicts.specs.Verdict.{verdictOf, settledOf, judgedOf}

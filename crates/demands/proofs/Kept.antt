@@ -6,8 +6,8 @@ use mathlib.Core.List.{List}
 use Rattle.answers.specs.Answers.{accepts}
 use Rattle.answers.proofs.Choice.{holds}
 use Rattle.streams.specs.declared.Conn.{Conn}
-use Rattle.streams.specs.declared.Entry.{Entry}
-use Rattle.streams.specs.Entry.{entryAt}
+use Rattle.entries.specs.declared.Entry.{Entry}
+use Rattle.entries.specs.Entry.{entryAt}
 use Rattle.streams.specs.Conn.{isOpen}
 use Rattle.limits.specs.Fits.{fits}
 use Rattle.calls.specs.declared.Call.{Call}

@@ -28,13 +28,13 @@ use Rattle.frames.proofs.Codes.{codes}
 use Rattle.halves.specs.Stream.{placeOf}
 use Rattle.streams.specs.declared.Called.{Called}
 use Rattle.streams.specs.declared.Conn.{Conn}
-use Rattle.streams.specs.declared.Entry.{Entry}
+use Rattle.entries.specs.declared.Entry.{Entry}
 use Rattle.streams.specs.declared.Limits.{Limits}
 use Rattle.streams.specs.declared.Mark.{Mark}
 use Rattle.streams.specs.declared.Mark.the-variants.{Open, Code}
 use Rattle.streams.specs.declared.Space.{Space}
 use Rattle.streams.specs.declared.Opened.{Opened}
-use Rattle.streams.specs.Entry.{mostCredit, fresh, entryAt, entryOf}
+use Rattle.entries.specs.Entry.{mostCredit, fresh, entryAt, entryOf}
 use Rattle.streams.specs.Conn.{isOpen, markedAs, initialOf, nextOf, handedOn, handedOutOf, spaceOf}
 use Rattle.streams.specs.Opening.{limitsFit, openedConn, unopenedOf, openingOf}
 use Rattle.views.specs.declared.View.{View}

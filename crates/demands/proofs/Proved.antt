@@ -23,11 +23,11 @@ use Rattle.frames.specs.declared.Reading.{Reading}
 use Rattle.frames.specs.declared.Reading.the-variants.{Got, Refused}
 use Rattle.frames.specs.Reading.{frameAt}
 use Rattle.streams.specs.declared.Conn.{Conn}
-use Rattle.streams.specs.declared.Entry.{Entry}
+use Rattle.entries.specs.declared.Entry.{Entry}
 use Rattle.streams.specs.declared.Limits.{Limits}
 use Rattle.streams.specs.declared.Mark.{Mark}
 use Rattle.streams.specs.declared.Mark.the-variants.{Open, Code}
-use Rattle.streams.specs.Entry.{entryAt, entryOf}
+use Rattle.entries.specs.Entry.{entryAt, entryOf}
 use Rattle.streams.specs.Conn.{isOpen, markedAs, countOf}
 use Rattle.halves.specs.Stream.{halfOf}
 use Rattle.verdicts.specs.declared.Judged.{Judged}

@@ -18,12 +18,12 @@ use Rattle.frames.specs.declared.Reading.the-variants.{Got, Refused}
 use Rattle.frames.specs.Reading.{frameAt}
 use Rattle.streams.specs.declared.Called.{Called}
 use Rattle.streams.specs.declared.Conn.{Conn}
-use Rattle.streams.specs.declared.Entry.{Entry}
+use Rattle.entries.specs.declared.Entry.{Entry}
 use Rattle.verdicts.specs.declared.Judged.{Judged}
 use Rattle.streams.specs.declared.Mark.the-variants.{Code}
 use Rattle.streams.specs.declared.Space.{Space}
 use Rattle.halves.specs.Stream.{placeOf}
-use Rattle.streams.specs.Entry.{entryAt, entryOf, mostCredit}
+use Rattle.entries.specs.Entry.{entryAt, entryOf, mostCredit}
 use Rattle.streams.specs.Conn.{isOpen, markedAs, nextOf, handedOutOf}
 use Rattle.answers.specs.Answers.{accepts}
 use Rattle.views.specs.View.{viewOf, streamIn, framePlace}

@@ -8,11 +8,11 @@ use Rattle.frames.specs.declared.Kind.{Kind}
 use Rattle.frames.specs.declared.Frame.{Frame}
 use Rattle.frames.specs.declared.Reading.the-variants.{Got}
 use Rattle.frames.specs.Reading.{frameAt}
-use Rattle.streams.specs.declared.Entry.{Entry}
+use Rattle.entries.specs.declared.Entry.{Entry}
 use Rattle.streams.specs.declared.Limits.{Limits}
 use Rattle.streams.specs.declared.Mark.the-variants.{Open}
 use Rattle.halves.specs.Stream.{halfOf, listed}
-use Rattle.streams.specs.Entry.{entryOf}
+use Rattle.entries.specs.Entry.{entryOf}
 use Rattle.streams.specs.Conn.{countOf}
 use Rattle.views.specs.declared.View.the-variants.{Ends}
 use Rattle.views.specs.View.{viewOf}

@@ -10,7 +10,7 @@ use Rattle.frames.specs.declared.Frame.{Frame}
 use Rattle.frames.specs.declared.Reading.{Reading}
 use Rattle.frames.specs.declared.Reading.the-variants.{Got, Refused}
 use Rattle.frames.specs.Reading.{frameAt}
-use Rattle.streams.specs.declared.Entry.{Entry}
+use Rattle.entries.specs.declared.Entry.{Entry}
 use Rattle.streams.specs.declared.Limits.{Limits}
 use Rattle.views.specs.declared.View.{View}
 use Rattle.views.specs.View.{viewOf}

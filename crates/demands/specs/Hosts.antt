@@ -8,7 +8,7 @@ use Rattle.answers.specs.declared.Answer.the-variants.{Accepted}
 use Rattle.frames.specs.declared.Kind.{Kind}
 use Rattle.records.specs.Marks.{noneOf}
 use Rattle.streams.specs.declared.Conn.{Conn}
-use Rattle.streams.specs.declared.Entry.{Entry}
+use Rattle.entries.specs.declared.Entry.{Entry}
 use Rattle.streams.specs.declared.Limits.{Limits}
 use Rattle.streams.specs.declared.Space.{Space}
 use Rattle.streams.specs.Conn.{handedOutOf}

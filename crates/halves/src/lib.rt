@@ -13,6 +13,9 @@ impl Stream {
     pub const MOST: u64 = 64;
 }
 
+// The places that a half has in the table.
+const PLACES: usize = Stream::MOST as usize;
+
 // The stream that an ID names.
 pub fn named(id: u64) -> Stream
     ensures { λ r. ⌜ r ≡ streamOf id ⌝ }
@@ -57,5 +60,5 @@ pub fn place_of(id: u64) -> usize
     if Stream::MOST <= s.ordinal {
         return 0;
     }
-    64 * s.half + s.ordinal as usize
+    PLACES * s.half + s.ordinal as usize
 }

@@ -1,39 +1,20 @@
 -- When a connection and its table fit (no 120), document 01, "120 for the table": entry by entry, and the connection's own numbers.
 use Prim.Native.Nat.{ℕ, zero, suc, _+_, _/_, _%_}
-use mathlib.Core.Bool.{Bool, true, false, not, _&&_, _||_}
+use mathlib.Core.Bool.{Bool, true, false, not, _&&_}
 use mathlib.Core.List.{List}
 use lib.ListN.{length}
 use lib.Dec.{ltb, leb, eqb}
 use Rattle.answers.specs.Choice.{_⇒_∣_}
 use Rattle.halves.specs.Stream.{mostStreams, entries, halfOf}
-use Rattle.streams.specs.Entry.{mostCredit, finalOf, isKnown, entryAt}
+use Rattle.entries.specs.Entry.{entryAt}
+use Rattle.entries.specs.Fitting.{entryFitsAs}
 use Rattle.streams.specs.Conn.{openedOf, countOf, initialOf}
 use Rattle.streams.specs.Opening.{limitsFit}
 use Rattle.streams.specs.declared.Conn.{Conn}
-use Rattle.streams.specs.declared.Entry.{Entry}
-use Rattle.streams.specs.declared.Final.{Final}
-use Rattle.streams.specs.declared.Final.the-variants.{Unknown, Known}
+use Rattle.entries.specs.declared.Entry.{Entry}
 use Rattle.limits.specs.declared.fits.Part.{Part}
 use Rattle.limits.specs.declared.fits.Summed.{Summed}
 use Rattle.limits.specs.declared.fits.Summed.the-variants.{To, Unfit}
-
--- a known final size is the end
-abbrev pub sizeFits : Final → ℕ → Bool
-sizeFits Unknown end = true
-sizeFits (Known size) end = eqb size end
-
--- as opening sets it
-unfoldable pub isFresh : Entry → ℕ → Bool
-isFresh e credit = eqb (e .credit) credit && (eqb (e .end) 0 && not (isKnown (finalOf (e .size))))
-
--- an entry at an ordinal of its half, of which so many are open and whose initial credit is init: its end is within its credit, a known final size is the end, it is as opening set it unless it is open,
--- and its credit is within the ceiling
-unfoldable pub entryFitsAs : ℕ → ℕ → ℕ → Entry → Bool
-entryFitsAs opened init n e =
-    leb (e .end) (e .credit)
-    && (sizeFits (finalOf (e .size)) (e .end)
-    && ((ltb n opened || isFresh e init)
-    && leb (e .credit) mostCredit))
 
 -- the entry at a place of the table, 64 to a half
 abbrev pub entryFits : Conn → ℕ → Entry → Bool

@@ -4,7 +4,7 @@ use mathlib.Core.Bool.{Bool, not}
 use lib.Dec.{ltb, leb}
 use Rattle.answers.specs.Choice.{_⇒_∣_}
 use Rattle.halves.specs.Stream.{mostStreams}
-use Rattle.streams.specs.Entry.{mostCredit}
+use Rattle.entries.specs.Entry.{mostCredit}
 use Rattle.limits.specs.declared.fits.Summed.{Summed}
 use Rattle.limits.specs.declared.fits.Summed.the-variants.{To, Unfit}
 

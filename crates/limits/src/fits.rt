@@ -1,9 +1,8 @@
 // The check of a connection's own numbers, and of one entry of its table as a step of a fold.
 ghost use mathlib.Core.Path.{_≡_};
-ghost use Rattle.limits.specs.Fits.{sizeFits, isFresh, entryFitsAs, openFit, connFits, summedOf, concludedOf, partOf};
+ghost use Rattle.limits.specs.Fits.{openFit, connFits, summedOf, concludedOf, partOf};
+use entries::Entry;
 use streams::Conn;
-use streams::Entry;
-use streams::Final;
 
 // The sum of the ends so far, or an entry that does not fit.
 pub enum Summed {
@@ -16,51 +15,6 @@ pub struct Part {
     pub credit: u64,
     pub opened: u64,
     pub initial: u64,
-}
-
-fn size_fits(known: Final, end: u64) -> bool
-    ensures { λ r. ⌜ r ≡ sizeFits known end ⌝ }
-{
-    match known {
-        Final::Unknown => true,
-        Final::Known { size } => size == end,
-    }
-}
-
-// As opening sets it.
-fn is_fresh(e: Entry, credit: u64) -> bool
-    ensures { λ r. ⌜ r ≡ isFresh e credit ⌝ }
-{
-    if e.credit != credit {
-        return false;
-    }
-    if e.end != 0 {
-        return false;
-    }
-    match e.known() {
-        Final::Unknown => true,
-        Final::Known { size: _ } => false,
-    }
-}
-
-// An entry at an ordinal of its half, of which so many are open and whose initial credit is `init`. Most entries of a
-// table are unopened, and one that is as opening set it needs no other test of its own.
-fn entry_fits(opened: u64, init: u64, ordinal: u64, e: Entry) -> bool
-    ensures { λ r. ⌜ r ≡ entryFitsAs opened init ordinal e ⌝ }
-{
-    if opened <= ordinal {
-        if is_fresh(e, init) {
-            return init <= Conn::MOST_CREDIT;
-        }
-        return false;
-    }
-    if e.credit < e.end {
-        return false;
-    }
-    if !size_fits(e.known(), e.end) {
-        return false;
-    }
-    e.credit <= Conn::MOST_CREDIT
 }
 
 // One entry more: it fits, and the sum of the ends stays within the connection credit.
@@ -77,7 +31,7 @@ pub fn one_more(
     let Summed::To { sum } = summed else {
         return Summed::Unfit;
     };
-    if !entry_fits(opened, init, ordinal, e) {
+    if !entries::fits(opened, init, ordinal, e) {
         return Summed::Unfit;
     }
     if credit < sum {

@@ -1,11 +1,11 @@
 // The unopened entries of a half, which are most of a table: looked at together, apart from the opened ones.
 ghost use mathlib.Core.Path.{_≡_};
 ghost use mathlib.Core.Bool.{_&&_};
-ghost use Rattle.limits.specs.Fits.{isFresh};
+ghost use Rattle.entries.specs.Fitting.{isFresh};
 ghost use Rattle.limits.specs.Rest.{openedIn, restOf};
 use crate::fits::Summed;
+use entries::Entry;
 use streams::Conn;
-use streams::Entry;
 
 // How many of the 64 entries of a half are opened.
 pub fn opened_in(opened: u64) -> u64

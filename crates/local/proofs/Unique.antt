@@ -12,7 +12,7 @@ use denote.Ref.{now}
 use Rattle.answers.specs.Firm.{FirmAnswer, FirmClauses}
 use Rattle.answers.proofs.Firm.{equation, clauses-equations}
 use Rattle.streams.specs.declared.Called.{Called}
-use Rattle.streams.specs.declared.Entry.{Entry}
+use Rattle.entries.specs.declared.Entry.{Entry}
 use Rattle.streams.specs.declared.Opened.{Opened}
 use Rattle.local.proofs.open as opening
 use Rattle.local.proofs.call as calling

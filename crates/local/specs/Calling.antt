@@ -6,9 +6,9 @@ use Rattle.answers.specs.Choice.{_⇒_∣_}
 use Rattle.answers.specs.declared.Answer.the-variants.{DoesNotFit}
 use Rattle.streams.specs.declared.Called.{Called}
 use Rattle.streams.specs.declared.Conn.{Conn}
-use Rattle.streams.specs.declared.Entry.{Entry}
+use Rattle.entries.specs.declared.Entry.{Entry}
 use Rattle.halves.specs.Stream.{placeOf}
-use Rattle.streams.specs.Entry.{entryAt}
+use Rattle.entries.specs.Entry.{entryAt}
 use Rattle.limits.specs.Fits.{fits}
 use Rattle.calls.specs.declared.Call.{Call}
 use Rattle.calls.specs.declared.Replied.{Replied}

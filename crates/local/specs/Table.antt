@@ -2,10 +2,10 @@
 use Prim.Native.Nat.{ℕ, zero, suc, _/_}
 use mathlib.Core.List.{List}
 use lib.ListN.{length, set}
-use Rattle.streams.specs.declared.Entry.{Entry}
+use Rattle.entries.specs.declared.Entry.{Entry}
 use Rattle.streams.specs.declared.Limits.{Limits}
 use Rattle.halves.specs.Stream.{mostStreams}
-use Rattle.streams.specs.Entry.{fresh}
+use Rattle.entries.specs.Entry.{fresh}
 use Rattle.streams.specs.Conn.{initialOf}
 use Rattle.steps.specs.Opening.{openingWhen, entriesOf}
 

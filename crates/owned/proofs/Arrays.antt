@@ -23,9 +23,9 @@ use denote.Struct.Laws as LL
 use denote.ArrayMemory.{Single, array-apart, array-whole}
 use denote.Index.{row}
 use denote.Steps.{owned, facts, only}
-use Rattle.streams.specs.declared.Entry.{Entry}
-use Rattle.streams.proofs.Entry as TEntry
-use Rattle.streams.proofs.Entry.Laws as TEntry′
+use Rattle.entries.specs.declared.Entry.{Entry}
+use Rattle.entries.proofs.Entry as TEntry
+use Rattle.entries.proofs.Entry.Laws as TEntry′
 
 -- its elements
 pub apart : {M : Type 1} (𝓤 : URA M) (H : Heap 𝓤) (A : Atoms 𝓤) (W : Given 𝓤 H A) (R : RattleType) (n : ℕ) → Single (R .mir) → (xs : List (R .Denot)) (v : Val) (b o : ℕ) → Makes 𝓤 H A (Array R n) (Is (Array R n)) → Is (Array R n) xs (v ∷ [])

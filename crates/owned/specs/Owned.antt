@@ -4,7 +4,7 @@ use mathlib.Core.List.{List}
 use lib.ListN.{length}
 use Rattle.frames.specs.declared.Kind.{Kind}
 use Rattle.streams.specs.declared.Conn.{Conn}
-use Rattle.streams.specs.declared.Entry.{Entry}
+use Rattle.entries.specs.declared.Entry.{Entry}
 use Rattle.streams.specs.declared.Limits.{Limits}
 use Rattle.calls.specs.declared.Call.{Call}
 use Rattle.spaces.specs.declared.Records.{Records}

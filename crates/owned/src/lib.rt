@@ -2,16 +2,16 @@
 ghost use mathlib.Core.Path.{_≡_};
 ghost use lib.ListN.{replicate};
 ghost use Rattle.halves.specs.Stream.{entries};
-ghost use Rattle.streams.specs.Entry.{fresh};
+ghost use Rattle.entries.specs.Entry.{fresh};
 ghost use Rattle.owned.specs.Owned.{ownedOpenedOf, ownedFrameOf, ownedPacketOf, ownedCallOf};
 use calls::Call;
+use entries::Entry;
 use frames::Kind;
 use packets::Took;
 use spaces::Records;
 use steps::TookFrame;
 use streams::Called;
 use streams::Conn;
-use streams::Entry;
 use streams::Limits;
 use streams::Opened;
 

@@ -10,7 +10,7 @@ use Rattle.wire.specs.declared.Wrote.{Wrote}
 use Rattle.wire.specs.declared.Wrote.the-variants.{To, Refused}
 use Rattle.frames.specs.declared.Kind.the-variants.{OneRtt}
 use Rattle.halves.specs.Stream.{entries}
-use Rattle.streams.specs.Entry.{fresh}
+use Rattle.entries.specs.Entry.{fresh}
 use Rattle.streams.specs.Small.{small}
 use Rattle.owned.specs.Owned.{ownedOpenedOf, ownedFrameOf}
 use Rattle.owned.specs.declared.OwnedOpened.{OwnedOpened}

@@ -11,7 +11,7 @@ use prog.Wp.{Heap}
 use denote.Ref.{now}
 use Rattle.answers.specs.Firm.{FirmClauses}
 use Rattle.answers.proofs.Firm.{equation, clauses-equations}
-use Rattle.streams.specs.declared.Entry.{Entry}
+use Rattle.entries.specs.declared.Entry.{Entry}
 use Rattle.packets.specs.declared.Took.{Took}
 use Rattle.steps.specs.declared.TookFrame.{TookFrame}
 use Rattle.receive.proofs.take_frame as take-frame

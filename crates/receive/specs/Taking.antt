@@ -4,7 +4,7 @@ use mathlib.Core.List.{List}
 use Rattle.answers.specs.Choice.{_⇒_∣_}
 use Rattle.frames.specs.declared.Kind.{Kind}
 use Rattle.streams.specs.declared.Conn.{Conn}
-use Rattle.streams.specs.declared.Entry.{Entry}
+use Rattle.entries.specs.declared.Entry.{Entry}
 use Rattle.limits.specs.Fits.{fits}
 use Rattle.packets.specs.declared.Begun.{Begun}
 use Rattle.steps.specs.declared.Gate.{Gate}

@@ -2,13 +2,13 @@
 // and nothing of it is copied but the one entry at hand. 120 comes before all else, in one pass over the table.
 ghost use mathlib.Core.Path.{_≡_};
 ghost use Rattle.receive.specs.Taking.{tookFrameOf, frameTable, tookOf, tookTable};
+use entries::Entry;
 use frames::Kind;
 use packets::Took;
 use spaces::Records;
 use steps::Shown;
 use steps::TookFrame;
 use streams::Conn;
-use streams::Entry;
 
 // Takes the frame at a place of the payload of a packet of this kind.
 pub fn take_frame(c: Conn, t: &mut [Entry], s: &[u8], at: usize, kind: Kind) -> TookFrame

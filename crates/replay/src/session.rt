@@ -1,9 +1,9 @@
 // What is kept between lines: whether a connection was opened, that connection, its three records and its table.
 use answers::Answer;
+use entries::Entry;
 use records::Record;
 use spaces::Records;
 use streams::Conn;
-use streams::Entry;
 
 pub struct Session {
     pub opened: bool,

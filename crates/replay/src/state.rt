@@ -2,9 +2,9 @@
 use crate::say;
 use crate::session;
 use crate::session::Ran;
+use entries::Entry;
 use spaces::Records;
 use streams::Conn;
-use streams::Entry;
 use streams::Mark;
 
 fn mark(out: &mut [u8; 16384], at: usize, m: Mark) -> usize {

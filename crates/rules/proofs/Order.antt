@@ -10,9 +10,9 @@ use Rattle.answers.specs.declared.Answer.the-variants.{Accepted, FlowControl, S
 use Rattle.answers.proofs.Accepts.{passed}
 use Rattle.answers.proofs.Distinct.{impossible}
 use Rattle.streams.specs.declared.Conn.{Conn}
-use Rattle.streams.specs.declared.Entry.{Entry}
+use Rattle.entries.specs.declared.Entry.{Entry}
 use Rattle.halves.specs.Stream.{streamOf, halfOf}
-use Rattle.streams.specs.Entry.{finalOf}
+use Rattle.entries.specs.Entry.{finalOf}
 use Rattle.streams.specs.Conn.{countOf}
 use Rattle.rules.specs.Rules.{rule1, rule2, rule3, rule4, rule5, endsOf, blockedOf}
 

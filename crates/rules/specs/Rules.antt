@@ -6,12 +6,12 @@ use Rattle.answers.specs.Choice.{_⇒_∣_}
 use Rattle.answers.specs.declared.Answer.{Answer}
 use Rattle.answers.specs.declared.Answer.the-variants.{Accepted, FlowControl, StreamLimit, StreamState, FinalSize}
 use Rattle.halves.specs.Stream.{streamOf, halfOf, peers, receives, sends}
-use Rattle.streams.specs.Entry.{finalOf}
+use Rattle.entries.specs.Entry.{finalOf}
 use Rattle.streams.specs.Conn.{countOf}
 use Rattle.streams.specs.declared.Conn.{Conn}
-use Rattle.streams.specs.declared.Entry.{Entry}
-use Rattle.streams.specs.declared.Final.{Final}
-use Rattle.streams.specs.declared.Final.the-variants.{Unknown, Known}
+use Rattle.entries.specs.declared.Entry.{Entry}
+use Rattle.entries.specs.declared.Final.{Final}
+use Rattle.entries.specs.declared.Final.the-variants.{Unknown, Known}
 use Rattle.halves.specs.declared.Stream.{Stream}
 
 -- 1. "type 3, or type 1 not opened by us": the peer does not send there, or the stream is ours and not open; count is the stream count of its half

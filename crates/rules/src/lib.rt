@@ -4,10 +4,10 @@ ghost use mathlib.Core.Path.{_≡_};
 ghost use Prim.Native.Nat.{_-_};
 ghost use Rattle.rules.specs.Rules;
 use answers::Answer;
+use entries::Entry;
+use entries::Final;
 use halves::Stream;
 use streams::Conn;
-use streams::Entry;
-use streams::Final;
 
 // The peer does not send on the stream's half, or the stream is ours and we did not open it.
 fn rule1(count: u64, s: Stream) -> bool

@@ -10,7 +10,7 @@ use Rattle.frames.specs.declared.Reading.{Reading}
 use Rattle.frames.specs.declared.Reading.the-variants.{Got, Refused}
 use Rattle.frames.specs.Reading.{frameAt}
 use Rattle.streams.specs.declared.Conn.{Conn}
-use Rattle.streams.specs.declared.Entry.{Entry}
+use Rattle.entries.specs.declared.Entry.{Entry}
 use Rattle.streams.specs.declared.Mark.the-variants.{Code}
 use Rattle.verdicts.specs.declared.Judged.{Judged}
 use Rattle.views.specs.declared.View.the-variants.{Nothing}

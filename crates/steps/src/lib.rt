@@ -5,9 +5,9 @@ pub mod gates;
 pub mod opening;
 
 use answers::Answer;
+use entries::Entry;
 use frames::Frame;
 use streams::Conn;
-use streams::Entry;
 use views::View;
 
 // What a frame at a place asks for: the place of the entry that it looks at, the place after the frame, its type and what

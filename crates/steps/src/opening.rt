@@ -2,12 +2,12 @@
 ghost use mathlib.Core.Path.{_≡_};
 ghost use Prim.Native.Nat.{_/_};
 ghost use Rattle.halves.specs.Stream.{mostStreams};
-ghost use Rattle.streams.specs.Entry.{fresh};
+ghost use Rattle.entries.specs.Entry.{fresh};
 ghost use Rattle.streams.specs.Conn.{initialOf};
 ghost use Rattle.steps.specs.Opening.{openingWhen, entriesOf};
 use answers::Answer;
+use entries::Entry;
 use streams::Conn;
-use streams::Entry;
 use streams::Limits;
 use streams::Opened;
 

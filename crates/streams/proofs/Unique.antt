@@ -2,8 +2,6 @@
 -- Assumes nothing.
 use Rattle.answers.specs.Firm.{FirmAnswer}
 use Rattle.answers.proofs.Firm.{equation}
-use Rattle.streams.proofs.Entry.known.Kinds as known
-use Rattle.streams.proofs.Entry.known.Reads as known-reads
 use Rattle.streams.proofs.Mark.is_open.Kinds as is-open
 use Rattle.streams.proofs.Mark.is_open.Reads as is-open-reads
 use Rattle.streams.proofs.Space.of.Kinds as of
@@ -30,9 +28,6 @@ use Rattle.streams.proofs.Conn.hand_out.Kinds as hand-out
 use Rattle.streams.proofs.Conn.hand_out.Reads as hand-out-reads
 use Rattle.streams.proofs.larger.Kinds as larger
 use Rattle.streams.proofs.larger.Reads as larger-reads
-
-pub known-firm : FirmAnswer 0 known.ps known.r known-reads.Asked known-reads.Post
-known-firm = equation
 
 pub is-open-firm : FirmAnswer 0 is-open.ps is-open.r is-open-reads.Asked is-open-reads.Post
 is-open-firm = equation

@@ -8,7 +8,7 @@ use Rattle.answers.specs.declared.Answer.the-variants.{Accepted, AboveCeiling}
 use Rattle.frames.specs.declared.Kind as kinds
 use Rattle.frames.specs.declared.Kind.the-variants as Kind'
 use Rattle.halves.specs.Stream.{halfOf, ordinalOf, peers}
-use Rattle.streams.specs.Entry.{mostCredit}
+use Rattle.entries.specs.Entry.{mostCredit}
 use Rattle.streams.specs.declared.Called.{Called}
 use Rattle.streams.specs.declared.Conn.{Conn}
 use Rattle.streams.specs.declared.Limits.{Limits}

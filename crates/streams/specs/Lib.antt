@@ -1,4 +1,3 @@
-pub mod Entry
 pub mod Conn
 pub mod Opening
 pub mod Small

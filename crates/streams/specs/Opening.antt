@@ -8,7 +8,7 @@ use Rattle.answers.specs.Choice.{_⇒_∣_}
 use Rattle.answers.specs.declared.Answer.{Answer}
 use Rattle.answers.specs.declared.Answer.the-variants.{Accepted, AboveCeiling}
 use Rattle.halves.specs.Stream.{mostStreams}
-use Rattle.streams.specs.Entry.{mostCredit}
+use Rattle.entries.specs.Entry.{mostCredit}
 use Rattle.streams.specs.Conn.{initialOf}
 use Rattle.streams.specs.declared.Conn.{Conn}
 use Rattle.streams.specs.declared.Limits.{Limits}

@@ -1,27 +1,12 @@
-// A connection in its parts, and an entry of its stream table (document 01, "Streams and credit"): how they are opened, read and
-// changed, by value. What a frame or a local call may do to them is said by the crates above.
+// A connection in its parts (document 01, "Streams and credit"): how it is opened, read and changed, by value. What a frame or a
+// local call may do to it is said by the crates above.
 ghost use mathlib.Core.Path.{_≡_};
 ghost use Prim.Native.Nat.{_<_, max};
 ghost use Rattle.halves.specs.Stream.{halfOf};
-ghost use Rattle.streams.specs.Entry.{finalOf};
 ghost use Rattle.streams.specs.Conn.{isOpen, openedOf, countOf, initialOf, markedAs, openTo, spaceOf, indexOf, nextOf, handedOutOf};
 ghost use Rattle.streams.specs.Opening.{limitsFit, openedConn, unopenedOf, openingOf};
 use answers::Answer;
 use frames::Kind;
-
-// An entry of the stream table. `size` is the final size, and `Entry::UNKNOWN` as long as there is none.
-#[repr(C)]
-pub struct Entry {
-    pub credit: u64,
-    pub end: u64,
-    pub size: u64,
-}
-
-// A final size, if it is known.
-pub enum Final {
-    Unknown,
-    Known { size: u64 },
-}
 
 // The closing mark: none, a code and the type of the frame that gave it, or the peer's own closing.
 pub enum Mark {
@@ -66,20 +51,6 @@ pub enum Space {
     Initial,
     Handshake,
     Application,
-}
-
-impl Entry {
-    // Above every size that a stream can have.
-    pub const UNKNOWN: u64 = 18446744073709551615;
-
-    pub fn known(self) -> Final
-        ensures { λ r. ⌜ r ≡ finalOf (self .size) ⌝ }
-    {
-        if self.size == Entry::UNKNOWN {
-            return Final::Unknown;
-        }
-        Final::Known { size: self.size }
-    }
 }
 
 impl Mark {

@@ -11,10 +11,10 @@ use lib.ListN.{length}
 use Rattle.answers.specs.Choice.{_⇒_∣_}
 use Rattle.answers.proofs.Choice.{below-or-not}
 use Rattle.streams.specs.declared.Conn.{Conn}
-use Rattle.streams.specs.declared.Entry.{Entry}
+use Rattle.entries.specs.declared.Entry.{Entry}
 use Rattle.limits.specs.declared.fits.Summed.{Summed}
 use Rattle.limits.specs.declared.fits.Summed.the-variants.{To, Unfit}
-use Rattle.streams.specs.Entry.{entryAt}
+use Rattle.entries.specs.Entry.{entryAt}
 use Rattle.streams.specs.Conn.{openedOf, initialOf}
 use Rattle.limits.specs.Fits.{entryFits, connFits, sumTo, allTo, fits, summedOf, concludedOf}
 use Rattle.tables.specs.Table.{summedTo}

@@ -8,13 +8,14 @@ use native.Mathlib.Omega.{arith}
 use borrow.Author.Tests.{le-leb, lt-leb, lt-ltb, le-ltb, eqb-true}
 use lib.Dec.{ltb, eqb}
 use Rattle.answers.proofs.Choice.{below-or-not}
-use Rattle.streams.specs.declared.Entry.{Entry}
+use Rattle.entries.specs.declared.Entry.{Entry}
 use Rattle.limits.specs.declared.fits.Summed.{Summed}
 use Rattle.limits.specs.declared.fits.Summed.the-variants.{To, Unfit}
-use Rattle.streams.specs.Entry.{mostCredit, entryAt}
-use Rattle.limits.specs.Fits.{isFresh, summedOf}
+use Rattle.entries.specs.Entry.{mostCredit, entryAt}
+use Rattle.limits.specs.Fits.{summedOf}
+use Rattle.entries.specs.Fitting.{isFresh}
 use Rattle.limits.specs.Rest.{openedIn, restOf}
-use Rattle.limits.proofs.Fresh.{fresh-fits, changed-unfit}
+use Rattle.entries.proofs.Fresh.{fresh-fits, changed-unfit}
 use Rattle.tables.specs.Table.{summedTo, untouchedTo}
 
 -- no more than 64 are opened

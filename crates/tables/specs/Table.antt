@@ -2,10 +2,11 @@
 use Prim.Native.Nat.{ℕ, zero, suc, _+_}
 use mathlib.Core.Bool.{Bool, true, _&&_}
 use mathlib.Core.List.{List}
-use Rattle.streams.specs.declared.Entry.{Entry}
-use Rattle.streams.specs.Entry.{entryAt}
+use Rattle.entries.specs.declared.Entry.{Entry}
+use Rattle.entries.specs.Entry.{entryAt}
 use Rattle.limits.specs.declared.fits.Summed.{Summed}
-use Rattle.limits.specs.Fits.{isFresh, summedOf}
+use Rattle.limits.specs.Fits.{summedOf}
+use Rattle.entries.specs.Fitting.{isFresh}
 
 -- the check of the first n entries from a place on, of a half of which so many are open and whose initial credit is init
 unfoldable pub summedTo : List Entry → ℕ → ℕ → ℕ → ℕ → Summed → ℕ → Summed

@@ -5,9 +5,14 @@ ghost use Prim.Native.Nat.{_+_, _-_, _≤_};
 ghost use lib.ListN.{length};
 ghost use Rattle.limits.specs.Fits;
 ghost use Rattle.tables.specs.Table.{summedTo, untouchedTo};
+use entries::Entry;
 use limits::fits::Summed;
 use streams::Conn;
-use streams::Entry;
+
+// The second and the third half's entries begin here: each half that receives has as many.
+const SECOND: usize = Conn::ENTRIES / 3;
+
+const THIRD: usize = 2 * SECOND;
 
 // Whether the entries of a half from an ordinal up to the last are as opening sets them; the first of them is at a place.
 fn rest(t: &[Entry], from: usize, ordinal: u64, initial: u64) -> bool
@@ -53,8 +58,8 @@ pub fn fits(c: Conn, t: &[Entry]) -> bool
     let p = limits::fits::part_of(c, 0);
     let a = part(t, 0, p.credit, p.opened, p.initial, Summed::To { sum: 0 });
     let q = limits::fits::part_of(c, 1);
-    let b = part(t, 64, q.credit, q.opened, q.initial, a);
+    let b = part(t, SECOND, q.credit, q.opened, q.initial, a);
     let r = limits::fits::part_of(c, 2);
-    let d = part(t, 128, r.credit, r.opened, r.initial, b);
+    let d = part(t, THIRD, r.credit, r.opened, r.initial, b);
     limits::fits::conclude(c, d)
 }

@@ -5,10 +5,10 @@ use Rattle.answers.specs.Choice.{_⇒_∣_}
 use Rattle.answers.specs.Answers.{accepts}
 use Rattle.answers.specs.declared.Answer.{Answer}
 use Rattle.answers.specs.declared.Answer.the-variants.{Accepted, ProtocolViolation}
-use Rattle.streams.specs.Entry.{reached}
+use Rattle.entries.specs.Entry.{reached}
 use Rattle.streams.specs.Conn.{markedAs, openTo, nextOf}
 use Rattle.streams.specs.declared.Conn.{Conn}
-use Rattle.streams.specs.declared.Entry.{Entry}
+use Rattle.entries.specs.declared.Entry.{Entry}
 use Rattle.streams.specs.declared.Mark.the-variants.{Code, ByPeer}
 use Rattle.rules.specs.Rules.{endsOf, blockedOf, forSenderOf}
 use Rattle.views.specs.declared.View.{View}

@@ -1,11 +1,11 @@
 // The verdict on a frame for the connection and the one entry that it looks at, by value: its answer, and what it leaves of both.
 ghost use mathlib.Core.Path.{_≡_};
-ghost use Rattle.streams.specs.Entry.{reached};
+ghost use Rattle.entries.specs.Entry.{reached};
 ghost use Rattle.views.specs.declared.View.the-variants.{Ends};
 ghost use Rattle.verdicts.specs.Verdict.{settledOf, judgedOf};
 use answers::Answer;
+use entries::Entry;
 use streams::Conn;
-use streams::Entry;
 use streams::Mark;
 use views::View;
 

@@ -15,10 +15,10 @@ use Rattle.answers.specs.declared.Answer.the-variants.{Accepted}
 use Rattle.frames.specs.declared.Kind.{Kind}
 use Rattle.frames.proofs.Order.{padding}
 use Rattle.streams.specs.declared.Conn.{Conn}
-use Rattle.streams.specs.declared.Entry.{Entry}
+use Rattle.entries.specs.declared.Entry.{Entry}
 use Rattle.views.specs.declared.View.the-variants.{Nothing}
 use Rattle.halves.specs.Stream.{placeOf}
-use Rattle.streams.specs.Entry.{fresh, entryAt}
+use Rattle.entries.specs.Entry.{fresh, entryAt}
 use Rattle.streams.specs.Conn.{isOpen}
 use Rattle.verdicts.specs.Verdict.{verdictOf, connHeard, entryHeard, settledOf, judgedOf}
 use Rattle.steps.specs.declared.Stopped.{Stopped}

@@ -15,8 +15,8 @@ use Rattle.frames.specs.Reading.{frameAt}
 use Rattle.frames.proofs.Codes.{codes}
 use Rattle.frames.proofs.Sound.{sound}
 use Rattle.streams.specs.declared.Conn.{Conn}
-use Rattle.streams.specs.declared.Entry.{Entry}
-use Rattle.streams.specs.Entry.{entryAt}
+use Rattle.entries.specs.declared.Entry.{Entry}
+use Rattle.entries.specs.Entry.{entryAt}
 use Rattle.streams.specs.Conn.{isOpen}
 use Rattle.answers.specs.Answers.{accepts}
 use Rattle.verdicts.specs.Verdict.{settledOf, judgedOf}

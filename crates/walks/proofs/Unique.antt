@@ -11,7 +11,7 @@ use prog.Wp.{Heap}
 use denote.Ref.{now}
 use Rattle.answers.specs.Firm.{FirmClauses}
 use Rattle.answers.proofs.Firm.{clauses-equations}
-use Rattle.streams.specs.declared.Entry.{Entry}
+use Rattle.entries.specs.declared.Entry.{Entry}
 use Rattle.steps.specs.declared.Stopped.{Stopped}
 use Rattle.steps.specs.declared.Stepped.{Stepped}
 use Rattle.walks.proofs.step as stepping

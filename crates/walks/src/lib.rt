@@ -3,11 +3,11 @@
 ghost use mathlib.Core.Path.{_≡_};
 ghost use Rattle.walks.specs.Walk.{steppedAt, stepTable, stoppedOf, walkTable};
 use answers::Answer;
+use entries::Entry;
 use frames::Kind;
 use steps::Stepped;
 use steps::Stopped;
 use streams::Conn;
-use streams::Entry;
 
 // The place where a walk stops, and the answer there.
 pub struct Stop {

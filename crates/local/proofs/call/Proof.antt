@@ -45,7 +45,7 @@ use denote.Triple.Table.{entered, cited}
 use denote.Triple.Walked.{says, Stays, stay-slice, stay-none, walkOf, goes-slice, goes-none, Walks, ends-at, walked, walk-meets}
 use denote.Exit.{yes}
 use Rattle.answers.specs.declared.Answer.the-variants.{DoesNotFit}
-use Rattle.streams.specs.Entry.{fresh, entryAt}
+use Rattle.entries.specs.Entry.{fresh, entryAt}
 use Rattle.limits.specs.Fits as whole
 use Rattle.calls.specs.Calls.{streamIn, repliedOf}
 use Rattle.local.specs.Calling.{callPlace, calledAt, calledTable}
@@ -68,9 +68,9 @@ use Rattle.calls.proofs.Replied as TReplied
 use Rattle.calls.proofs.Replied.Laws as TReplied′
 use Rattle.answers.proofs.Answer as TAnswer
 use Rattle.answers.proofs.Answer.Laws as TAnswer′
-use Rattle.streams.specs.declared.Entry.{Entry}
-use Rattle.streams.proofs.Entry as TEntry
-use Rattle.streams.proofs.Entry.Laws as TEntry′
+use Rattle.entries.specs.declared.Entry.{Entry}
+use Rattle.entries.proofs.Entry as TEntry
+use Rattle.entries.proofs.Entry.Laws as TEntry′
 use Rattle.calls.proofs.place as place
 use Rattle.calls.proofs.judge as judge
 use Rattle.local.proofs.call.Key.{name as #f}

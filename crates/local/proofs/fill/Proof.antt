@@ -52,15 +52,15 @@ use lib.Dec.{ltb, ltb→lt, nltb→le}
 use Rattle.streams.specs.declared.Limits.{Limits}
 use Rattle.streams.proofs.Limits as TLimits
 use Rattle.streams.proofs.Limits.Laws as TLimits′
-use Rattle.streams.specs.Entry.{fresh}
+use Rattle.entries.specs.Entry.{fresh}
 use Rattle.halves.specs.Stream.{mostStreams}
 use Rattle.streams.specs.Conn.{initialOf}
 use Rattle.tables.proofs.Leave.{leaves}
 use Rattle.local.specs.Table.{filledTo}
 use Rattle.tables.proofs.Cases.{cases, is-true, is-false}
-use Rattle.streams.specs.declared.Entry.{Entry}
-use Rattle.streams.proofs.Entry as TEntry
-use Rattle.streams.proofs.Entry.Laws as TEntry′
+use Rattle.entries.specs.declared.Entry.{Entry}
+use Rattle.entries.proofs.Entry as TEntry
+use Rattle.entries.proofs.Entry.Laws as TEntry′
 use Rattle.local.proofs.fill.Key.{name as #f}
 use Rattle.local.proofs.fill as f
 use Rattle.local.proofs.fill.Statement as stated

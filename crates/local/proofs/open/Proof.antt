@@ -50,8 +50,8 @@ use Rattle.local.proofs.Within.{entries-within}
 use Rattle.streams.specs.declared.Opened.{Opened}
 use Rattle.streams.proofs.Opened as TOpened
 use Rattle.streams.proofs.Opened.Laws as TOpened′
-use Rattle.streams.specs.declared.Entry.{Entry}
-use Rattle.streams.proofs.Entry as TEntry
+use Rattle.entries.specs.declared.Entry.{Entry}
+use Rattle.entries.proofs.Entry as TEntry
 use Rattle.local.proofs.open.Key.{name as #f}
 use Rattle.local.proofs.open as f
 use Rattle.local.proofs.open.Statement as stated

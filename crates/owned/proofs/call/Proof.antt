@@ -51,9 +51,9 @@ use Rattle.owned.proofs.OwnedCall.Laws as TOwnedCall′
 use Rattle.streams.specs.declared.Called.{Called}
 use Rattle.streams.proofs.Called as TCalled
 use Rattle.streams.proofs.Called.Laws as TCalled′
-use Rattle.streams.specs.declared.Entry.{Entry}
-use Rattle.streams.proofs.Entry as TEntry
-use Rattle.streams.proofs.Entry.Laws as TEntry′
+use Rattle.entries.specs.declared.Entry.{Entry}
+use Rattle.entries.proofs.Entry as TEntry
+use Rattle.entries.proofs.Entry.Laws as TEntry′
 use Rattle.calls.specs.declared.Call.{Call}
 use Rattle.calls.proofs.Call as TCall
 use Rattle.calls.proofs.Call.Laws as TCall′

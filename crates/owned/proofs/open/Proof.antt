@@ -51,9 +51,9 @@ use Rattle.owned.proofs.OwnedOpened.Laws as TOwnedOpened′
 use Rattle.streams.specs.declared.Opened.{Opened}
 use Rattle.streams.proofs.Opened as TOpened
 use Rattle.streams.proofs.Opened.Laws as TOpened′
-use Rattle.streams.specs.declared.Entry.{Entry}
-use Rattle.streams.proofs.Entry as TEntry
-use Rattle.streams.proofs.Entry.Laws as TEntry′
+use Rattle.entries.specs.declared.Entry.{Entry}
+use Rattle.entries.proofs.Entry as TEntry
+use Rattle.entries.proofs.Entry.Laws as TEntry′
 use Rattle.owned.proofs.open.Key.{name as #f}
 use Rattle.owned.proofs.open as f
 use Rattle.owned.proofs.open.Statement as stated

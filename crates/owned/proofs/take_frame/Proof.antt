@@ -57,9 +57,9 @@ use Rattle.owned.proofs.OwnedFrame.Laws as TOwnedFrame′
 use Rattle.steps.specs.declared.TookFrame.{TookFrame}
 use Rattle.steps.proofs.TookFrame as TTookFrame
 use Rattle.steps.proofs.TookFrame.Laws as TTookFrame′
-use Rattle.streams.specs.declared.Entry.{Entry}
-use Rattle.streams.proofs.Entry as TEntry
-use Rattle.streams.proofs.Entry.Laws as TEntry′
+use Rattle.entries.specs.declared.Entry.{Entry}
+use Rattle.entries.proofs.Entry as TEntry
+use Rattle.entries.proofs.Entry.Laws as TEntry′
 use Rattle.owned.proofs.take_frame.Key.{name as #f}
 use Rattle.owned.proofs.take_frame as f
 use Rattle.owned.proofs.take_frame.Statement as stated

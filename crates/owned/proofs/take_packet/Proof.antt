@@ -56,9 +56,9 @@ use Rattle.owned.proofs.OwnedPacket.Laws as TOwnedPacket′
 use Rattle.packets.specs.declared.Took.{Took}
 use Rattle.packets.proofs.Took as TTook
 use Rattle.packets.proofs.Took.Laws as TTook′
-use Rattle.streams.specs.declared.Entry.{Entry}
-use Rattle.streams.proofs.Entry as TEntry
-use Rattle.streams.proofs.Entry.Laws as TEntry′
+use Rattle.entries.specs.declared.Entry.{Entry}
+use Rattle.entries.proofs.Entry as TEntry
+use Rattle.entries.proofs.Entry.Laws as TEntry′
 use Rattle.owned.proofs.take_packet.Key.{name as #f}
 use Rattle.owned.proofs.take_packet as f
 use Rattle.owned.proofs.take_packet.Statement as stated

@@ -5,7 +5,7 @@ use mathlib.Core.List.{List}
 use borrow.Author.Needs.{needs}
 use Rattle.owned.specs.Owned.{ownedOpenedOf}
 use Rattle.streams.specs.Small.{small}
-use Rattle.streams.specs.declared.Entry.{Entry}
+use Rattle.entries.specs.declared.Entry.{Entry}
 use Rattle.pages.specs.Pages.{smallOf}
 use Rattle.pages.proofs.small.Statement.{statement}
 use Rattle.pages.proofs.small.Tie as tie

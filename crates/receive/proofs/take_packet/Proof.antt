@@ -62,8 +62,8 @@ use Rattle.packets.proofs.Begun.Laws as TBegun′
 use Rattle.steps.specs.declared.Stopped.{Stopped}
 use Rattle.steps.proofs.Stopped as TStopped
 use Rattle.steps.proofs.Stopped.Laws as TStopped′
-use Rattle.streams.specs.declared.Entry.{Entry}
-use Rattle.streams.proofs.Entry as TEntry
+use Rattle.entries.specs.declared.Entry.{Entry}
+use Rattle.entries.proofs.Entry as TEntry
 use Rattle.receive.proofs.take_packet.Key.{name as #f}
 use Rattle.receive.proofs.take_packet as f
 use Rattle.receive.proofs.take_packet.Statement as stated

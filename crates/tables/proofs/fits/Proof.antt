@@ -53,8 +53,8 @@ use Rattle.streams.proofs.Conn.Laws as TConn′
 use Rattle.limits.specs.declared.fits.Summed.{Summed}
 use Rattle.limits.proofs.fits.Summed as TSummed
 use Rattle.limits.proofs.fits.Summed.Laws as TSummed′
-use Rattle.streams.specs.declared.Entry.{Entry}
-use Rattle.streams.proofs.Entry as TEntry
+use Rattle.entries.specs.declared.Entry.{Entry}
+use Rattle.entries.proofs.Entry as TEntry
 use Rattle.tables.proofs.fits.Key.{name as #f}
 use Rattle.tables.proofs.fits as f
 use Rattle.tables.proofs.fits.Statement as stated

@@ -50,7 +50,7 @@ use native.Mathlib.Numerals.{add-one}
 use lib.Dec.{ltb, ltb→lt, nltb→le}
 use types.Share.{arr-parts}
 use denote.Memory.{shares}
-use Rattle.streams.specs.Entry.{fresh, entryAt}
+use Rattle.entries.specs.Entry.{fresh, entryAt}
 use Rattle.limits.specs.Fits.{summedOf}
 use Rattle.limits.specs.Rest.{openedIn, restOf}
 use Rattle.tables.proofs.Leave.{leaves}
@@ -60,9 +60,9 @@ use Rattle.tables.proofs.Cases.{cases, is-true, is-false}
 use Rattle.limits.specs.declared.fits.Summed.{Summed}
 use Rattle.limits.proofs.fits.Summed as TSummed
 use Rattle.limits.proofs.fits.Summed.Laws as TSummed′
-use Rattle.streams.specs.declared.Entry.{Entry}
-use Rattle.streams.proofs.Entry as TEntry
-use Rattle.streams.proofs.Entry.Laws as TEntry′
+use Rattle.entries.specs.declared.Entry.{Entry}
+use Rattle.entries.proofs.Entry as TEntry
+use Rattle.entries.proofs.Entry.Laws as TEntry′
 use Rattle.tables.proofs.part.Key.{name as #f}
 use Rattle.tables.proofs.part as f
 use Rattle.tables.proofs.part.Statement as stated

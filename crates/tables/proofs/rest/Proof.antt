@@ -49,14 +49,14 @@ use lib.Dec.{ltb, ltb→lt, nltb→le}
 use types.Share.{arr-parts}
 use denote.Memory.{shares}
 use mathlib.Core.Bool.{_&&_}
-use Rattle.streams.specs.Entry.{fresh, entryAt}
-use Rattle.limits.specs.Fits.{isFresh}
+use Rattle.entries.specs.Entry.{fresh, entryAt}
+use Rattle.entries.specs.Fitting.{isFresh}
 use Rattle.tables.proofs.Leave.{leaves}
 use Rattle.tables.specs.Table.{untouchedTo}
 use Rattle.tables.proofs.Cases.{cases, is-true, is-false}
-use Rattle.streams.specs.declared.Entry.{Entry}
-use Rattle.streams.proofs.Entry as TEntry
-use Rattle.streams.proofs.Entry.Laws as TEntry′
+use Rattle.entries.specs.declared.Entry.{Entry}
+use Rattle.entries.proofs.Entry as TEntry
+use Rattle.entries.proofs.Entry.Laws as TEntry′
 use Rattle.tables.proofs.rest.Key.{name as #f}
 use Rattle.tables.proofs.rest as f
 use Rattle.tables.proofs.rest.Statement as stated

@@ -1,7 +1,7 @@
 -- `verdicts::after` meets its contract: the larger of two is their maximum, and the test is that of the definition.
 -- Assumes nothing.
 use borrow.Author.Needs.{needs}
-use Rattle.streams.specs.Entry.{reached}
+use Rattle.entries.specs.Entry.{reached}
 use Rattle.verdicts.proofs.after.Statement.{statement}
 use Rattle.verdicts.proofs.after.Tie as tie
 

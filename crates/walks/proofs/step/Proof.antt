@@ -41,7 +41,7 @@ use denote.Triple.Statement.{Triple, Contract}
 use denote.Triple.Table.{entered, cited}
 use denote.Triple.Walked.{says, Stays, stay-slice, stay-none-slice, stay-none, walkOf, goes-slice, goes-none-slice, goes-none, Walks, ends-at, walked, walk-meets}
 use denote.Exit.{yes}
-use Rattle.streams.specs.Entry.{fresh, entryAt}
+use Rattle.entries.specs.Entry.{fresh, entryAt}
 use Rattle.steps.specs.Step.{requestAt, decidedOf}
 use Rattle.tables.proofs.Leave.{leaves, stand}
 use Rattle.walks.specs.Walk.{decidedAt, steppedAt, stepTable}
@@ -60,9 +60,9 @@ use Rattle.steps.proofs.Request.Laws as TRequest′
 use Rattle.steps.specs.declared.Decided.{Decided}
 use Rattle.steps.proofs.Decided as TDecided
 use Rattle.steps.proofs.Decided.Laws as TDecided′
-use Rattle.streams.specs.declared.Entry.{Entry}
-use Rattle.streams.proofs.Entry as TEntry
-use Rattle.streams.proofs.Entry.Laws as TEntry′
+use Rattle.entries.specs.declared.Entry.{Entry}
+use Rattle.entries.proofs.Entry as TEntry
+use Rattle.entries.proofs.Entry.Laws as TEntry′
 use Rattle.walks.proofs.step.Key.{name as #f}
 use Rattle.walks.proofs.step as f
 use Rattle.walks.proofs.step.Statement as stated

@@ -75,8 +75,8 @@ use Rattle.steps.proofs.Stepped as TStepped
 use Rattle.steps.proofs.Stepped.Laws as TStepped′
 use Rattle.answers.proofs.Answer as TAnswer
 use Rattle.answers.proofs.Answer.Laws as TAnswer′
-use Rattle.streams.specs.declared.Entry.{Entry}
-use Rattle.streams.proofs.Entry as TEntry
+use Rattle.entries.specs.declared.Entry.{Entry}
+use Rattle.entries.proofs.Entry as TEntry
 use Rattle.walks.proofs.walk.Key.{name as #f}
 use Rattle.walks.proofs.walk as f
 use Rattle.walks.proofs.walk.Statement as stated

@@ -1,6 +1,6 @@
 -- `limits::rest::untouched` meets its contract: its tests in a row are those of an entry as opening sets it.
 -- Assumes nothing.
-use Rattle.limits.proofs.Fresh.{in-a-row}
+use Rattle.entries.proofs.Fresh.{in-a-row}
 use Rattle.limits.proofs.rest.untouched.Statement.{statement}
 use Rattle.limits.proofs.rest.untouched.Tie as tie
 

@@ -21,13 +21,14 @@ use Rattle.frames.specs.Fields.{frameOf, fieldsAt}
 use Rattle.fields.specs.Heads.{headAt}
 use Rattle.frames.specs.Reading.{frameAt}
 use Rattle.halves.specs.Stream.{idOf, listed, placeOf}
-use Rattle.streams.specs.Entry.{finalOf, reached}
+use Rattle.entries.specs.Entry.{finalOf, reached}
 use Rattle.streams.specs.Conn.{countOf}
 use Rattle.streams.specs.Opening.{limitsFit, openingOf}
 use Rattle.rules.specs.Rules.{rule1, rule2, rule3, rule4, rule5, endsOf}
 use Rattle.views.specs.View.{endOf}
 use Rattle.verdicts.specs.Verdict.{verdictOf, connHeard, entryHeard, settledOf, judgedOf}
-use Rattle.limits.specs.Fits.{isFresh, entryFitsAs, openFit, connFits, sumTo, allTo, fits}
+use Rattle.limits.specs.Fits.{openFit, connFits, sumTo, allTo, fits}
+use Rattle.entries.specs.Fitting.{isFresh, entryFitsAs}
 use Rattle.steps.specs.Gate.{gateOf}
 use Rattle.steps.specs.Opening.{openingWhen, entriesOf}
 use Rattle.steps.specs.Step.{requestOf, requestAt, decidedOf, shownOf, shownAt}

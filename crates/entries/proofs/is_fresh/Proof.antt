@@ -1,11 +1,11 @@
--- `limits::fits::is_fresh` meets its contract: the tests are those of the definition, in its order.
+-- `entries::is_fresh` meets its contract: the tests are those of the definition, in its order.
 -- Assumes nothing.
 use borrow.Author.Needs.{needs}
 use mathlib.Core.Path.{sym, _∙_}
 use borrow.Author.Tests.{eq-eqb, ne-eqb}
-use Rattle.limits.specs.Fits.{isFresh}
-use Rattle.limits.proofs.fits.is_fresh.Statement.{statement}
-use Rattle.limits.proofs.fits.is_fresh.Tie as tie
+use Rattle.entries.specs.Fitting.{isFresh}
+use Rattle.entries.proofs.is_fresh.Statement.{statement}
+use Rattle.entries.proofs.is_fresh.Tie as tie
 
 returns : tie.Need-returns
 unfolding isFresh

@@ -1,12 +1,12 @@
--- `limits::fits::entry_fits` meets its contract: an unopened entry fits where it is as opening set it, and of an opened one the tests are those of the definition.
+-- `entries::fits` meets its contract: an unopened entry fits where it is as opening set it, and of an opened one the tests are those of the definition.
 -- Assumes nothing.
 use borrow.Author.Needs.{needs}
 use mathlib.Core.Path.{sym, _∙_}
 use borrow.Author.Tests.{le-leb, lt-leb, lt-ltb, not-true, not-false}
-use Rattle.limits.specs.Fits.{entryFitsAs}
-use Rattle.limits.proofs.fits.entry_fits.Statement.{statement}
-use Rattle.limits.proofs.fits.entry_fits.Tie as tie
-use Rattle.limits.proofs.Fresh.{fresh-fits, changed-unfit}
+use Rattle.entries.specs.Fitting.{entryFitsAs}
+use Rattle.entries.proofs.fits.Statement.{statement}
+use Rattle.entries.proofs.fits.Tie as tie
+use Rattle.entries.proofs.Fresh.{fresh-fits, changed-unfit}
 
 returns : tie.Need-returns
 returns c = let a = c .before .before .before .args in sym (fresh-fits (a .opened) (a .init) (a .ordinal) (a .e) (c .before .before .if1 .taken) (sym (c .before .is-fresh .ensures) ∙ c .if2 .taken))
@@ -26,8 +26,8 @@ returns-5 : tie.Need-returns-5
 unfolding entryFitsAs
 returns-5 c = rw (le-leb _ _ (c .before .before .before .before .if3 .left), sym (c .before .before .before .known .ensures), sym (c .before .before .size-fits .ensures) ∙ not-false _ (c .before .if4 .left), lt-ltb _ _ (c .before .before .before .before .before .before .if1 .left))
 
-pub entry-fits-spec : {M : Type 1} → statement M
-entry-fits-spec =
+pub fits-spec : {M : Type 1} → statement M
+fits-spec =
     tie.close
     (tie.spec
     (λ c κs. search needs)

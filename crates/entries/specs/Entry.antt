@@ -6,9 +6,9 @@ use lib.ListN.{getD}
 use lib.Dec.{eqb}
 use Rattle.answers.specs.Choice.{_⇒_∣_}
 use Rattle.halves.specs.Stream.{placeOf}
-use Rattle.streams.specs.declared.Entry.{Entry}
-use Rattle.streams.specs.declared.Final.{Final}
-use Rattle.streams.specs.declared.Final.the-variants.{Unknown, Known}
+use Rattle.entries.specs.declared.Entry.{Entry}
+use Rattle.entries.specs.declared.Final.{Final}
+use Rattle.entries.specs.declared.Final.the-variants.{Unknown, Known}
 
 -- "credit 2^62-1"
 abbrev pub mostCredit : ℕ

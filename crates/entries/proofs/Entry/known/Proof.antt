@@ -1,9 +1,9 @@
--- `streams::Entry::known` meets its contract: the test is that of the definition.
+-- `entries::Entry::known` meets its contract: the test is that of the definition.
 -- Assumes nothing.
 use borrow.Author.Tests.{eq-eqb, ne-eqb}
-use Rattle.streams.specs.Entry.{finalOf}
-use Rattle.streams.proofs.Entry.known.Statement.{statement}
-use Rattle.streams.proofs.Entry.known.Tie as tie
+use Rattle.entries.specs.Entry.{finalOf}
+use Rattle.entries.proofs.Entry.known.Statement.{statement}
+use Rattle.entries.proofs.Entry.known.Tie as tie
 
 returns : tie.Need-returns
 unfolding finalOf

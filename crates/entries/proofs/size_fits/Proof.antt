@@ -1,8 +1,8 @@
--- `limits::fits::size_fits` meets its contract: the match is that of the definition.
+-- `entries::size_fits` meets its contract: the match is that of the definition.
 -- Assumes nothing.
 use borrow.Author.Needs.{needs}
-use Rattle.limits.proofs.fits.size_fits.Statement.{statement}
-use Rattle.limits.proofs.fits.size_fits.Tie as tie
+use Rattle.entries.proofs.size_fits.Statement.{statement}
+use Rattle.entries.proofs.size_fits.Tie as tie
 
 returns-2 : tie.Need-returns-2
 returns-2 c = rw (c .before .known .given .1)

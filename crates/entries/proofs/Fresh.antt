@@ -7,11 +7,11 @@ use native.Mathlib.Omega.{arith}
 use borrow.Author.Tests.{eqb-true, le-leb, le-ltb}
 use lib.Dec.{leb, eqb}
 use Rattle.answers.specs.Choice.{_⇒_∣_}
-use Rattle.streams.specs.declared.Entry.{Entry}
-use Rattle.streams.specs.declared.Final.{Final}
-use Rattle.streams.specs.declared.Final.the-variants.{Unknown, Known}
-use Rattle.streams.specs.Entry.{mostCredit, finalOf, isKnown}
-use Rattle.limits.specs.Fits.{sizeFits, isFresh, entryFitsAs}
+use Rattle.entries.specs.declared.Entry.{Entry}
+use Rattle.entries.specs.declared.Final.{Final}
+use Rattle.entries.specs.declared.Final.the-variants.{Unknown, Known}
+use Rattle.entries.specs.Entry.{mostCredit, finalOf, isKnown}
+use Rattle.entries.specs.Fitting.{sizeFits, isFresh, entryFitsAs}
 
 -- no final size contradicts no end
 unknown-fits : (k : Final) (end : ℕ) → not (isKnown k) ≡ true → sizeFits k end ≡ true
