@@ -4,7 +4,8 @@ use mathlib.Core.Path.{refl}
 use Rattle.halves.specs.Stream.{idOf}
 use Rattle.entries.specs.Entry.{finalOf}
 use Rattle.streams.specs.Conn.{countOf, handedOutOf}
-use Rattle.streams.specs.Opening.{limitsFit, openingOf}
+use Rattle.opening.specs.Opening.{openingOf}
+use Rattle.streams.specs.Conn.{limitsFit}
 use Rattle.views.specs.View.{endOf}
 use Rattle.rules.specs.Rules.{rule1, rule2, blockedOf, forSenderOf}
 use Rattle.verdicts.specs.Verdict.{verdictOf, connHeard}

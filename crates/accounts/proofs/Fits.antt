@@ -18,7 +18,7 @@ use Rattle.entries.specs.declared.Final.the-variants.{Unknown, Known}
 use Rattle.halves.specs.Stream.{mostStreams}
 use Rattle.entries.specs.Entry.{mostCredit, finalOf, isKnown, fresh, entryAt}
 use Rattle.streams.specs.Conn.{openedOf, countOf, initialOf}
-use Rattle.streams.specs.Opening.{limitsFit}
+use Rattle.streams.specs.Conn.{limitsFit}
 use Rattle.limits.specs.Fits.{entryFits, openFit, connFits, sumTo, allTo, fits}
 use Rattle.entries.specs.Fitting.{sizeFits, isFresh, entryFitsAs}
 use Rattle.answers.proofs.Distinct.{impossible}

@@ -21,7 +21,8 @@ use Rattle.streams.specs.declared.Mark.the-variants.{Open}
 use Rattle.halves.specs.Stream.{mostStreams, placeOf}
 use Rattle.entries.specs.Entry.{mostCredit, finalOf, fresh, reached, credited, entryAt, entryOf}
 use Rattle.streams.specs.Conn.{initialOf, openedOf, countOf}
-use Rattle.streams.specs.Opening.{limitsFit, openedConn, unopenedOf, openingOf}
+use Rattle.opening.specs.Opening.{openedConn, unopenedOf, openingOf}
+use Rattle.streams.specs.Conn.{limitsFit}
 use Rattle.views.specs.declared.View.the-variants.{Ends, Blocks, ForSender, Acks, Closes, Nothing}
 use Rattle.rules.specs.Rules.{endsOf}
 use Rattle.verdicts.specs.Verdict.{verdictOf, entryHeard}

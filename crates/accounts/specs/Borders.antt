@@ -14,7 +14,7 @@ use Rattle.streams.specs.declared.Mark.the-variants.{Open, ByPeer}
 use Rattle.streams.specs.declared.Space.the-variants.{Initial, Handshake, Application}
 use Rattle.entries.specs.Entry.{fresh}
 use Rattle.streams.specs.Conn.{openedOf, handedOutOf}
-use Rattle.streams.specs.Opening.{openedConn, openingOf}
+use Rattle.opening.specs.Opening.{openedConn, openingOf}
 use Rattle.views.specs.declared.View.{View}
 use Rattle.views.specs.declared.View.the-variants.{Ends, Blocks, ForSender, Acks, Closes, Nothing}
 use Rattle.views.specs.View.{viewOf}

@@ -18,7 +18,7 @@ use Rattle.streams.specs.declared.Space.{Space}
 use Rattle.halves.specs.Stream.{streamOf, halfOf, ordinalOf, receives, mostStreams, entries, listed, placeOf}
 use Rattle.entries.specs.Entry.{fresh, entryOf}
 use Rattle.streams.specs.Conn.{isOpen, initialOf, countOf, handedOn, handedOutOf}
-use Rattle.streams.specs.Opening.{openedConn, openingOf}
+use Rattle.opening.specs.Opening.{openedConn, openingOf}
 use Rattle.views.specs.declared.View.{View}
 use Rattle.views.specs.declared.View.the-variants.{Ends, Blocks, ForSender, Acks, Closes, Nothing}
 use Rattle.views.specs.View as views

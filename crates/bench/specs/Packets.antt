@@ -10,7 +10,7 @@ use Rattle.records.specs.declared.Record.{Record}
 use Rattle.records.specs.Marks.{noneOf}
 use Rattle.records.specs.Ring.{takenOf}
 use Rattle.streams.specs.declared.Mark.the-variants.{Open}
-use Rattle.streams.specs.Opening.{openedConn}
+use Rattle.opening.specs.Opening.{openedConn}
 use Rattle.streams.specs.Small.{small}
 use Rattle.headers.specs.declared.Header.the-variants.{Carries, NoPacket}
 use Rattle.headers.specs.First.{headerOf, sizeIn, reservedOf}

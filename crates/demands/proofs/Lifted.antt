@@ -33,10 +33,11 @@ use Rattle.streams.specs.declared.Limits.{Limits}
 use Rattle.streams.specs.declared.Mark.{Mark}
 use Rattle.streams.specs.declared.Mark.the-variants.{Open, Code}
 use Rattle.streams.specs.declared.Space.{Space}
-use Rattle.streams.specs.declared.Opened.{Opened}
+use Rattle.opening.specs.declared.Opened.{Opened}
 use Rattle.entries.specs.Entry.{mostCredit, fresh, entryAt, entryOf}
 use Rattle.streams.specs.Conn.{isOpen, markedAs, initialOf, nextOf, handedOn, handedOutOf, spaceOf}
-use Rattle.streams.specs.Opening.{limitsFit, openedConn, unopenedOf, openingOf}
+use Rattle.opening.specs.Opening.{openedConn, unopenedOf, openingOf}
+use Rattle.streams.specs.Conn.{limitsFit}
 use Rattle.views.specs.declared.View.{View}
 use Rattle.views.specs.View.{viewOf, streamIn}
 use Rattle.verdicts.specs.Verdict.{verdictOf, settledOf, judgedOf}
@@ -53,7 +54,7 @@ use Rattle.packets.specs.Begin.{refusedOf, closesOf}
 use Rattle.packets.specs.Finish.{tookAs, finishOf}
 use Rattle.steps.specs.declared.Decided.{Decided}
 use Rattle.steps.specs.Gate.{gateOf}
-use Rattle.steps.specs.Opening.{openingWhen, entriesOf}
+use Rattle.opening.specs.Opening.{openingWhen, entriesOf}
 use Rattle.steps.specs.Step.{requestOf, requestAt, decidedOf}
 use Rattle.local.specs.Table.{filledTo, openedTable}
 use Rattle.walks.specs.Walk.{decidedAt, steppedAt, stepTable, stepHeard, stopped, Walked, ahead, walkFrom, walkAll}

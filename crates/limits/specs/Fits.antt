@@ -9,7 +9,7 @@ use Rattle.halves.specs.Stream.{mostStreams, entries, halfOf}
 use Rattle.entries.specs.Entry.{entryAt}
 use Rattle.entries.specs.Fitting.{entryFitsAs}
 use Rattle.streams.specs.Conn.{openedOf, countOf, initialOf}
-use Rattle.streams.specs.Opening.{limitsFit}
+use Rattle.streams.specs.Conn.{limitsFit}
 use Rattle.streams.specs.declared.Conn.{Conn}
 use Rattle.entries.specs.declared.Entry.{Entry}
 use Rattle.limits.specs.declared.fits.Part.{Part}

@@ -13,7 +13,7 @@ use Rattle.answers.specs.Firm.{FirmAnswer, FirmClauses}
 use Rattle.answers.proofs.Firm.{equation, clauses-equations}
 use Rattle.streams.specs.declared.Called.{Called}
 use Rattle.entries.specs.declared.Entry.{Entry}
-use Rattle.streams.specs.declared.Opened.{Opened}
+use Rattle.opening.specs.declared.Opened.{Opened}
 use Rattle.local.proofs.open as opening
 use Rattle.local.proofs.call as calling
 use Rattle.local.proofs.hand_out.Kinds as hand-out

@@ -11,8 +11,8 @@ use Rattle.answers.specs.declared.Answer.the-variants.{DoesNotFit}
 use Rattle.answers.specs.Answers.{accepts}
 use Rattle.answers.proofs.Choice.{holds}
 use Rattle.streams.specs.declared.Limits.{Limits}
-use Rattle.streams.specs.Opening.{unopenedOf, openingOf}
-use Rattle.steps.specs.Opening.{openingWhen, entriesOf}
+use Rattle.opening.specs.Opening.{unopenedOf, openingOf}
+use Rattle.opening.specs.Opening.{openingWhen, entriesOf}
 
 pub entries-within : (n : ℕ) (limits : Limits) → entriesOf (openingWhen n limits .answer) ≤ n
 unfolding openingWhen entriesOf

@@ -7,7 +7,7 @@ use Rattle.streams.specs.declared.Limits.{Limits}
 use Rattle.halves.specs.Stream.{mostStreams}
 use Rattle.entries.specs.Entry.{fresh}
 use Rattle.streams.specs.Conn.{initialOf}
-use Rattle.steps.specs.Opening.{openingWhen, entriesOf}
+use Rattle.opening.specs.Opening.{openingWhen, entriesOf}
 
 -- the first n entries as opening sets them
 unfoldable pub filledTo : ℕ → List Entry → Limits → List Entry

@@ -4,16 +4,16 @@ ghost use mathlib.Core.Path.{_≡_};
 ghost use Prim.Native.Nat.{_≤_};
 ghost use lib.ListN.{length};
 ghost use Rattle.streams.specs.Conn.{handedOutOf};
-ghost use Rattle.steps.specs.Opening.{openingWhen};
+ghost use Rattle.opening.specs.Opening.{openingWhen};
 ghost use Rattle.local.specs.Table.{filledTo, openedTable};
 ghost use Rattle.local.specs.Calling.{calledAt, calledTable};
 use answers::Answer;
 use calls::Call;
 use entries::Entry;
+use opening::Opened;
 use streams::Called;
 use streams::Conn;
 use streams::Limits;
-use streams::Opened;
 use streams::Space;
 
 // Sets the first n entries as opening does.
@@ -23,7 +23,7 @@ fn fill(t: &mut [Entry], n: usize, limits: Limits)
 {
     let mut i: usize = 0;
     while i < n {
-        t[i] = steps::opening::entry(i, limits);
+        t[i] = opening::entry(i, limits);
         i += 1;
     }
 }
@@ -32,8 +32,8 @@ fn fill(t: &mut [Entry], n: usize, limits: Limits)
 pub fn open(t: &mut [Entry], limits: Limits) -> Opened
     ensures { λ r. ⌜ (r ≡ openingWhen (length (now (t .entry))) limits) × (now (t .exit) ≡ openedTable (now (t .entry)) limits) ⌝ }
 {
-    let o = steps::opening::open(t.len(), limits);
-    let n = steps::opening::entries(o.answer);
+    let o = opening::for_table(t.len(), limits);
+    let n = opening::count(o.answer);
     fill(t, n, limits);
     o
 }

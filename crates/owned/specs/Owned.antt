@@ -8,7 +8,7 @@ use Rattle.entries.specs.declared.Entry.{Entry}
 use Rattle.streams.specs.declared.Limits.{Limits}
 use Rattle.calls.specs.declared.Call.{Call}
 use Rattle.spaces.specs.declared.Records.{Records}
-use Rattle.steps.specs.Opening.{openingWhen}
+use Rattle.opening.specs.Opening.{openingWhen}
 use Rattle.local.specs.Table.{openedTable}
 use Rattle.receive.specs.Taking.{tookFrameOf, frameTable, tookOf, tookTable}
 use Rattle.local.specs.Calling.{calledAt, calledTable}

@@ -7,13 +7,13 @@ ghost use Rattle.owned.specs.Owned.{ownedOpenedOf, ownedFrameOf, ownedPa
 use calls::Call;
 use entries::Entry;
 use frames::Kind;
+use opening::Opened;
 use packets::Took;
 use spaces::Records;
 use steps::TookFrame;
 use streams::Called;
 use streams::Conn;
 use streams::Limits;
-use streams::Opened;
 
 pub struct OwnedOpened {
     pub opened: Opened,

@@ -1,6 +1,7 @@
 // What is kept between lines: whether a connection was opened, that connection, its three records and its table.
 use answers::Answer;
 use entries::Entry;
+use opening::Opened;
 use records::Record;
 use spaces::Records;
 use streams::Conn;
@@ -29,7 +30,7 @@ pub fn no_records() -> Records {
 
 // The session before a connection is opened.
 pub fn empty() -> Session {
-    let none = Conn::unopened(Answer::Closed);
+    let none = Opened::refused(Answer::Closed);
     let conn = none.conn;
     Session {
         opened: false,

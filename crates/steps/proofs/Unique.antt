@@ -12,12 +12,6 @@ use Rattle.steps.proofs.frame.show.Kinds as show
 use Rattle.steps.proofs.frame.show.Reads as show-reads
 use Rattle.steps.proofs.gates.gate.Kinds as gate
 use Rattle.steps.proofs.gates.gate.Reads as gate-reads
-use Rattle.steps.proofs.opening.open.Kinds as opening
-use Rattle.steps.proofs.opening.open.Reads as opening-reads
-use Rattle.steps.proofs.opening.entries.Kinds as entries
-use Rattle.steps.proofs.opening.entries.Reads as entries-reads
-use Rattle.steps.proofs.opening.entry.Kinds as entry
-use Rattle.steps.proofs.opening.entry.Reads as entry-reads
 
 pub request-firm : FirmAnswer 1 request.ps request.r request-reads.Asked request-reads.Post
 request-firm = equation
@@ -33,12 +27,3 @@ show-firm = equation
 
 pub gate-firm : FirmAnswer 0 gate.ps gate.r gate-reads.Asked gate-reads.Post
 gate-firm = equation
-
-pub open-firm : FirmAnswer 0 opening.ps opening.r opening-reads.Asked opening-reads.Post
-open-firm = equation
-
-pub entries-firm : FirmAnswer 0 entries.ps entries.r entries-reads.Asked entries-reads.Post
-entries-firm = equation
-
-pub entry-firm : FirmAnswer 0 entry.ps entry.r entry-reads.Asked entry-reads.Post
-entry-firm = equation

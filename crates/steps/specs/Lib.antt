@@ -1,4 +1,3 @@
 pub mod Step
 pub mod Past
 pub mod Gate
-pub mod Opening

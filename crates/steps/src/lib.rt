@@ -2,7 +2,6 @@
 // (document 01, "Taking a packet"): what a host's call does, apart from the lent table.
 pub mod frame;
 pub mod gates;
-pub mod opening;
 
 use answers::Answer;
 use entries::Entry;

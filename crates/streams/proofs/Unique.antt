@@ -10,10 +10,6 @@ use Rattle.streams.proofs.Limits.fit.Kinds as fit
 use Rattle.streams.proofs.Limits.fit.Reads as fit-reads
 use Rattle.streams.proofs.Limits.initial_of.Kinds as initial-of
 use Rattle.streams.proofs.Limits.initial_of.Reads as initial-of-reads
-use Rattle.streams.proofs.Conn.open.Kinds as opening
-use Rattle.streams.proofs.Conn.open.Reads as opening-reads
-use Rattle.streams.proofs.Conn.unopened.Kinds as unopened
-use Rattle.streams.proofs.Conn.unopened.Reads as unopened-reads
 use Rattle.streams.proofs.Conn.opened_of.Kinds as opened-of
 use Rattle.streams.proofs.Conn.opened_of.Reads as opened-of-reads
 use Rattle.streams.proofs.Conn.count_of.Kinds as count-of
@@ -40,12 +36,6 @@ fit-firm = equation
 
 pub initial-of-firm : FirmAnswer 0 initial-of.ps initial-of.r initial-of-reads.Asked initial-of-reads.Post
 initial-of-firm = equation
-
-pub open-firm : FirmAnswer 0 opening.ps opening.r opening-reads.Asked opening-reads.Post
-open-firm = equation
-
-pub unopened-firm : FirmAnswer 0 unopened.ps unopened.r unopened-reads.Asked unopened-reads.Post
-unopened-firm = equation
 
 pub opened-of-firm : FirmAnswer 0 opened-of.ps opened-of.r opened-of-reads.Asked opened-of-reads.Post
 opened-of-firm = equation

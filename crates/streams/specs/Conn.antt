@@ -1,13 +1,13 @@
 -- A connection in its parts: what it advertises, what is open of each half, the total, the numbers handed out and the mark; and how each part changes.
 use Prim.Native.Nat.{ℕ, zero, suc, _+_, _/_, max}
-use mathlib.Core.Bool.{Bool, true, false}
+use mathlib.Core.Bool.{Bool, true, false, _&&_}
 use lib.ListN.{getD, set}
-use lib.Dec.{ltb}
+use lib.Dec.{ltb, leb}
 use Rattle.answers.specs.Choice.{_⇒_∣_}
 use Rattle.answers.specs.declared.Answer.the-variants.{Accepted, AboveCeiling}
 use Rattle.frames.specs.declared.Kind as kinds
 use Rattle.frames.specs.declared.Kind.the-variants as Kind'
-use Rattle.halves.specs.Stream.{halfOf, ordinalOf, peers}
+use Rattle.halves.specs.Stream.{halfOf, ordinalOf, peers, mostStreams}
 use Rattle.entries.specs.Entry.{mostCredit}
 use Rattle.streams.specs.declared.Called.{Called}
 use Rattle.streams.specs.declared.Conn.{Conn}
@@ -88,3 +88,13 @@ unfoldable pub handedOutOf : Conn → Space → Called
 handedOutOf c space =
     ltb mostCredit (nextOf c space) ⇒ record { answer = AboveCeiling; number = 0; conn = c }
     ∣ record { answer = Accepted; number = nextOf c space; conn = handedOn c space }
+
+-- "The ceilings belong to the connection: 64 streams a type, credit 2^62-1": no limit is above its own
+unfoldable pub limitsFit : Limits → Bool
+limitsFit limits =
+    leb (limits .credit) mostCredit
+    && (leb (getD (limits .counts) 0 0) mostStreams
+    && (leb (getD (limits .counts) 1 0) mostStreams
+    && (leb (initialOf limits 0) mostCredit
+    && (leb (initialOf limits 1) mostCredit
+    && leb (initialOf limits 2) mostCredit))))

@@ -1,3 +1,2 @@
 pub mod Conn
-pub mod Opening
 pub mod Small

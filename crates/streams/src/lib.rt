@@ -1,10 +1,9 @@
-// A connection in its parts (document 01, "Streams and credit"): how it is opened, read and changed, by value. What a frame or a
+// A connection in its parts (document 01, "Streams and credit"): how it is read and changed, by value. What a frame or a
 // local call may do to it is said by the crates above.
 ghost use mathlib.Core.Path.{_≡_};
 ghost use Prim.Native.Nat.{_<_, max};
 ghost use Rattle.halves.specs.Stream.{halfOf};
-ghost use Rattle.streams.specs.Conn.{isOpen, openedOf, countOf, initialOf, markedAs, openTo, spaceOf, indexOf, nextOf, handedOutOf};
-ghost use Rattle.streams.specs.Opening.{limitsFit, openedConn, unopenedOf, openingOf};
+ghost use Rattle.streams.specs.Conn.{isOpen, openedOf, countOf, initialOf, markedAs, openTo, spaceOf, indexOf, nextOf, handedOutOf, limitsFit};
 use answers::Answer;
 use frames::Kind;
 
@@ -31,12 +30,6 @@ pub struct Conn {
     pub total: u64,
     pub next: [u64; 3],
     pub mark: Mark,
-}
-
-// What opening a connection answers. A refused opening gives a connection that advertises nothing and is closed.
-pub struct Opened {
-    pub answer: Answer,
-    pub conn: Conn,
 }
 
 // What a call answers: a number where it hands one out, else 0; and the connection after it.
@@ -133,47 +126,6 @@ impl Conn {
 
     // The entries of a table: 64 for each half that receives.
     pub const ENTRIES: usize = 192;
-
-    // Nothing is open, nothing counted, no number handed out.
-    fn fresh(limits: Limits, mark: Mark) -> Conn
-        ensures { λ r. ⌜ r ≡ openedConn limits mark ⌝ }
-    {
-        Conn {
-            limits,
-            opened: [0; 4],
-            total: 0,
-            next: [0; 3],
-            mark,
-        }
-    }
-
-    // A connection that was just opened, or 103 for a limit above its ceiling.
-    pub fn open(limits: Limits) -> Opened
-        ensures { λ r. ⌜ r ≡ openingOf limits ⌝ }
-    {
-        if limits.fit() {
-            return Opened {
-                answer: Answer::Accepted,
-                conn: Conn::fresh(limits, Mark::Open),
-            };
-        }
-        Conn::unopened(Answer::AboveCeiling)
-    }
-
-    // An opening that is refused.
-    pub fn unopened(answer: Answer) -> Opened
-        ensures { λ r. ⌜ r ≡ unopenedOf answer ⌝ }
-    {
-        let limits = Limits {
-            credit: 0,
-            counts: [0; 2],
-            initial: [0; 3],
-        };
-        Opened {
-            answer,
-            conn: Conn::fresh(limits, Mark::Code { answer, ty: 0 }),
-        }
-    }
 
     // How many streams of a stream's half are open.
     pub fn opened_of(self, id: u64) -> u64

@@ -66,11 +66,11 @@ use Rattle.local.proofs.fill as f
 use Rattle.local.proofs.fill.Statement as stated
 use Rattle.local.proofs.fill.Code as code
 use Rattle.local.proofs.fill.Code.Mir as mir
-use Rattle.steps.proofs.opening.entry.Symbol as entry-def
-use Rattle.steps.proofs.opening.entry.Symbol.{name as #entry}
-use Rattle.steps.proofs.opening.entry.Met as entry-thm
+use Rattle.opening.proofs.entry.Symbol as entry-def
+use Rattle.opening.proofs.entry.Symbol.{name as #entry}
+use Rattle.opening.proofs.entry.Met as entry-thm
 use Rattle.tables.proofs.Lent.{vals}
-use Rattle.steps.proofs.opening.entry as entry-fn
+use Rattle.opening.proofs.entry as entry-fn
 use Rattle.tables.proofs.Handed.{calls-fn}
 
 abbrev stayed : Stays (f.ended .signature .params) (f.ended .kept)
@@ -239,4 +239,4 @@ fill-spec 𝓤 H 𝓜 𝓖 𝓡 =
     entered 𝓤 H (tripleOf 𝓤 H (𝓖 .A) f.signature (f.spec 𝓤 H (𝓖 .A) (𝓜 .mem) (𝓡 .run)))
     (tables 𝓤 H 𝓜 𝓡 code.env .C) (tables 𝓤 H 𝓜 𝓡 code.env .Λ) #f code.function (code.unfolded 𝓤 H 𝓜 𝓡)
     (f-meets 𝓤 H (𝓖 .A) (givenOf 𝓤 H 𝓜 𝓖) (𝓜 .mem) (𝓡 .run) (tablesOf 𝓤 H 𝓜 (tables 𝓤 H 𝓜 𝓡 code.env))
-    (cited 𝓤 H (Fresh 𝓤 H (𝓖 .A) (𝓜 .mem) (𝓡 .run)) 𝓜 𝓡 code.env #entry entry-def.routine code.calls-steps·opening·entry (entry-thm.met 𝓤 H 𝓜 𝓖 𝓡)))
+    (cited 𝓤 H (Fresh 𝓤 H (𝓖 .A) (𝓜 .mem) (𝓡 .run)) 𝓜 𝓡 code.env #entry entry-def.routine code.calls-opening·entry (entry-thm.met 𝓤 H 𝓜 𝓖 𝓡)))

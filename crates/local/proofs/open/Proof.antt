@@ -42,14 +42,14 @@ use denote.Exit.{yes}
 use Rattle.streams.specs.declared.Limits.{Limits}
 use Rattle.streams.proofs.Limits as TLimits
 use Rattle.streams.proofs.Limits.Laws as TLimits′
-use Rattle.steps.specs.Opening.{openingWhen, entriesOf}
+use Rattle.opening.specs.Opening.{openingWhen, entriesOf}
 use Rattle.tables.proofs.Leave.{stand, leaves}
 use Rattle.local.specs.Table.{filledTo, openedTable}
 use Rattle.tables.proofs.Lent.{vals, ref}
 use Rattle.local.proofs.Within.{entries-within}
-use Rattle.streams.specs.declared.Opened.{Opened}
-use Rattle.streams.proofs.Opened as TOpened
-use Rattle.streams.proofs.Opened.Laws as TOpened′
+use Rattle.opening.specs.declared.Opened.{Opened}
+use Rattle.opening.proofs.Opened as TOpened
+use Rattle.opening.proofs.Opened.Laws as TOpened′
 use Rattle.entries.specs.declared.Entry.{Entry}
 use Rattle.entries.proofs.Entry as TEntry
 use Rattle.local.proofs.open.Key.{name as #f}
@@ -57,20 +57,20 @@ use Rattle.local.proofs.open as f
 use Rattle.local.proofs.open.Statement as stated
 use Rattle.local.proofs.open.Code as code
 use Rattle.local.proofs.open.Code.Mir as mir
-use Rattle.steps.proofs.opening.open.Symbol as opening-def
-use Rattle.steps.proofs.opening.open.Symbol.{name as #opening}
-use Rattle.steps.proofs.opening.open.Met as opening-thm
-use Rattle.steps.proofs.opening.entries.Symbol as entries-def
-use Rattle.steps.proofs.opening.entries.Symbol.{name as #entries}
-use Rattle.steps.proofs.opening.entries.Met as entries-thm
+use Rattle.opening.proofs.for_table.Symbol as opening-def
+use Rattle.opening.proofs.for_table.Symbol.{name as #opening}
+use Rattle.opening.proofs.for_table.Met as opening-thm
+use Rattle.opening.proofs.count.Symbol as entries-def
+use Rattle.opening.proofs.count.Symbol.{name as #entries}
+use Rattle.opening.proofs.count.Met as entries-thm
 use Rattle.local.proofs.fill.Symbol as fill-def
 use Rattle.local.proofs.fill.Symbol.{name as #fill}
 use Rattle.local.proofs.fill.Met as fill-thm
 use denote.Enum.Laws as EL
 use Rattle.answers.proofs.Answer as TAnswer
 use Rattle.answers.proofs.Answer.Laws as TAnswer′
-use Rattle.steps.proofs.opening.entries as entries-fn
-use Rattle.steps.proofs.opening.open as opening-fn
+use Rattle.opening.proofs.count as entries-fn
+use Rattle.opening.proofs.for_table as opening-fn
 use Rattle.tables.proofs.Handed.{lends-mut-fn, calls-fn}
 use Rattle.local.proofs.fill as fill-fn
 use mathlib.Core.Bool.{true}
@@ -179,6 +179,6 @@ open-spec 𝓤 H 𝓜 𝓖 𝓡 =
     entered 𝓤 H (tripleOf 𝓤 H (𝓖 .A) f.signature (f.spec 𝓤 H (𝓖 .A) (𝓜 .mem) (𝓡 .run)))
     (tables 𝓤 H 𝓜 𝓡 code.env .C) (tables 𝓤 H 𝓜 𝓡 code.env .Λ) #f code.function (code.unfolded 𝓤 H 𝓜 𝓡)
     (f-meets 𝓤 H (𝓖 .A) (givenOf 𝓤 H 𝓜 𝓖) (𝓜 .mem) (𝓡 .run) (tablesOf 𝓤 H 𝓜 (tables 𝓤 H 𝓜 𝓡 code.env))
-    (cited 𝓤 H (Opening 𝓤 H (𝓖 .A) (𝓜 .mem) (𝓡 .run)) 𝓜 𝓡 code.env #opening opening-def.routine code.calls-steps·opening·open (opening-thm.met 𝓤 H 𝓜 𝓖 𝓡))
-    (cited 𝓤 H (Entries 𝓤 H (𝓖 .A) (𝓜 .mem) (𝓡 .run)) 𝓜 𝓡 code.env #entries entries-def.routine code.calls-steps·opening·entries (entries-thm.met 𝓤 H 𝓜 𝓖 𝓡))
+    (cited 𝓤 H (Opening 𝓤 H (𝓖 .A) (𝓜 .mem) (𝓡 .run)) 𝓜 𝓡 code.env #opening opening-def.routine code.calls-opening·for-table (opening-thm.met 𝓤 H 𝓜 𝓖 𝓡))
+    (cited 𝓤 H (Entries 𝓤 H (𝓖 .A) (𝓜 .mem) (𝓡 .run)) 𝓜 𝓡 code.env #entries entries-def.routine code.calls-opening·count (entries-thm.met 𝓤 H 𝓜 𝓖 𝓡))
     (cited 𝓤 H (Fill 𝓤 H (𝓖 .A) (𝓜 .mem) (𝓡 .run)) 𝓜 𝓡 code.env #fill fill-def.routine code.calls-local·fill (fill-thm.met 𝓤 H 𝓜 𝓖 𝓡)))

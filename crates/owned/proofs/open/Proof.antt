@@ -41,16 +41,16 @@ use denote.Triple.Table.{entered, cited}
 use denote.Triple.Walked.{says, Stays, stay-none, walkOf, goes-none, Walks, ends-at, walked, walk-meets}
 use denote.Exit.{yes}
 use Rattle.tables.proofs.Leave.{stand, leaves}
-use Rattle.steps.specs.Opening.{openingWhen}
+use Rattle.opening.specs.Opening.{openingWhen}
 use Rattle.local.specs.Table.{openedTable}
 use Rattle.owned.specs.Owned.{ownedOpenedOf}
 use Rattle.tables.proofs.Lent.{ref, vals}
 use Rattle.owned.specs.declared.OwnedOpened.{OwnedOpened}
 use Rattle.owned.proofs.OwnedOpened as TOwnedOpened
 use Rattle.owned.proofs.OwnedOpened.Laws as TOwnedOpened′
-use Rattle.streams.specs.declared.Opened.{Opened}
-use Rattle.streams.proofs.Opened as TOpened
-use Rattle.streams.proofs.Opened.Laws as TOpened′
+use Rattle.opening.specs.declared.Opened.{Opened}
+use Rattle.opening.proofs.Opened as TOpened
+use Rattle.opening.proofs.Opened.Laws as TOpened′
 use Rattle.entries.specs.declared.Entry.{Entry}
 use Rattle.entries.proofs.Entry as TEntry
 use Rattle.entries.proofs.Entry.Laws as TEntry′

@@ -3,7 +3,7 @@
 use borrow.Author.Needs.{needs}
 use native.Mathlib.Omega.{arith}
 use borrow.Author.Tests.{le-leb, lt-leb}
-use Rattle.streams.specs.Opening.{limitsFit}
+use Rattle.streams.specs.Conn.{limitsFit}
 use Rattle.streams.proofs.Limits.fit.Statement.{statement}
 use Rattle.streams.proofs.Limits.fit.Tie as tie
 

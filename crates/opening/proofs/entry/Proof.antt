@@ -1,8 +1,8 @@
--- `steps::opening::entry` meets its contract: its credit is the initial one of its half.
+-- `opening::entry` meets its contract: its credit is the initial one of its half.
 -- Assumes nothing.
 use borrow.Author.Needs.{needs}
-use Rattle.steps.proofs.opening.entry.Statement.{statement}
-use Rattle.steps.proofs.opening.entry.Tie as tie
+use Rattle.opening.proofs.entry.Statement.{statement}
+use Rattle.opening.proofs.entry.Tie as tie
 
 returns : tie.Need-returns
 returns c = rw (c .initial-of .ensures)

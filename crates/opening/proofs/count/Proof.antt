@@ -1,10 +1,10 @@
--- `steps::opening::entries` meets its contract: the match asks whether the answer accepts.
+-- `opening::count` meets its contract: the match asks whether the answer accepts.
 -- Assumes nothing.
 use borrow.Author.Needs.{needs}
 use Rattle.answers.proofs.Accepts.{refused}
-use Rattle.steps.specs.Opening.{entriesOf}
-use Rattle.steps.proofs.opening.entries.Statement.{statement}
-use Rattle.steps.proofs.opening.entries.Tie as tie
+use Rattle.opening.specs.Opening.{entriesOf}
+use Rattle.opening.proofs.count.Statement.{statement}
+use Rattle.opening.proofs.count.Tie as tie
 
 returns : tie.Need-returns
 unfolding entriesOf
@@ -14,8 +14,8 @@ returns-2 : tie.Need-returns-2
 unfolding entriesOf
 returns-2 c = rw (c .enum-told .given .1)
 
-pub entries-spec : {M : Type 1} → statement M
-entries-spec =
+pub count-spec : {M : Type 1} → statement M
+count-spec =
     tie.close
     (tie.spec
     (λ c. search needs)

@@ -1,0 +1,29 @@
+-- The contract of every function that other crates can call is firm: it asks nothing and is an equation of the answer.
+-- Assumes nothing.
+use Rattle.answers.specs.Firm.{FirmAnswer}
+use Rattle.answers.proofs.Firm.{equation}
+use Rattle.opening.proofs.Opened.open.Kinds as opens
+use Rattle.opening.proofs.Opened.open.Reads as opens-reads
+use Rattle.opening.proofs.Opened.refused.Kinds as refuses
+use Rattle.opening.proofs.Opened.refused.Reads as refuses-reads
+use Rattle.opening.proofs.for_table.Kinds as for-table
+use Rattle.opening.proofs.for_table.Reads as for-table-reads
+use Rattle.opening.proofs.count.Kinds as counts
+use Rattle.opening.proofs.count.Reads as counts-reads
+use Rattle.opening.proofs.entry.Kinds as enters
+use Rattle.opening.proofs.entry.Reads as enters-reads
+
+pub opens-firm : FirmAnswer 0 opens.ps opens.r opens-reads.Asked opens-reads.Post
+opens-firm = equation
+
+pub refuses-firm : FirmAnswer 0 refuses.ps refuses.r refuses-reads.Asked refuses-reads.Post
+refuses-firm = equation
+
+pub for-table-firm : FirmAnswer 0 for-table.ps for-table.r for-table-reads.Asked for-table-reads.Post
+for-table-firm = equation
+
+pub counts-firm : FirmAnswer 0 counts.ps counts.r counts-reads.Asked counts-reads.Post
+counts-firm = equation
+
+pub enters-firm : FirmAnswer 0 enters.ps enters.r enters-reads.Asked enters-reads.Post
+enters-firm = equation
