@@ -1,6 +1,8 @@
 // The commands of the list, and a line read as one of them. A line that is none of them is found out here, before it is
 // looked whether there is a connection: it answers "what" and not "none".
 use crate::line;
+use crate::spoils;
+use crate::spoils::Spoil;
 use calls::Call;
 use frames::Kind;
 use hex::Pairs;
@@ -75,10 +77,13 @@ pub enum Within {
         space: Space,
         number: u64,
     },
+    Set {
+        spoil: Spoil,
+    },
 }
 
 // A word that names one of few things, or none of them.
-enum SpaceWord {
+pub enum SpaceWord {
     Is { space: Space },
     Wrong,
 }
@@ -93,7 +98,7 @@ enum SizeWord {
     Wrong,
 }
 
-fn space(s: &[u8], n: usize) -> SpaceWord {
+pub fn space(s: &[u8], n: usize) -> SpaceWord {
     let Parsed::Is { value } = line::number(s, n) else {
         return SpaceWord::Wrong;
     };
@@ -399,6 +404,16 @@ fn open(s: &[u8]) -> Command {
     }
 }
 
+fn set(s: &[u8], n: usize) -> Command {
+    let spoil = spoils::read(s, n);
+    match spoil {
+        Spoil::Wrong => Command::What,
+        _ => Command::Within {
+            within: Within::Set { spoil },
+        },
+    }
+}
+
 // The commands with one word after the name.
 fn of_one(s: &[u8], bytes: &mut [u8]) -> Command {
     if line::is(s, 0, b"hand") {
@@ -465,6 +480,9 @@ pub fn read(s: &[u8], bytes: &mut [u8]) -> Command {
         return Command::Blank;
     }
     let n = words::count(s);
+    if line::is(s, 0, b"set") {
+        return set(s, n);
+    }
     if n == 2 {
         return of_one(s, bytes);
     }

@@ -5,6 +5,7 @@ mod line;
 mod replies;
 mod say;
 mod session;
+mod spoils;
 mod state;
 mod within;
 

@@ -5,6 +5,7 @@ use opening::Opened;
 use records::Record;
 use spaces::Records;
 use streams::Conn;
+use streams::Space;
 
 pub struct Session {
     pub opened: bool,
@@ -46,5 +47,38 @@ pub fn of(conn: Conn, records: Records, table: [Entry; Conn::ENTRIES]) -> Sessio
         conn,
         records,
         table,
+    }
+}
+
+// The record of a space.
+pub fn record(records: Records, space: Space) -> Record {
+    match space {
+        Space::Initial => records.initial,
+        Space::Handshake => records.handshake,
+        Space::Application => records.application,
+    }
+}
+
+// The records with another one for a space.
+pub fn with(records: Records, space: Space, r: Record) -> Records {
+    let initial = records.initial;
+    let handshake = records.handshake;
+    let application = records.application;
+    match space {
+        Space::Initial => Records {
+            initial: r,
+            handshake,
+            application,
+        },
+        Space::Handshake => Records {
+            initial,
+            handshake: r,
+            application,
+        },
+        Space::Application => Records {
+            initial,
+            handshake,
+            application: r,
+        },
     }
 }

@@ -4,6 +4,7 @@ use crate::say;
 use crate::session;
 use crate::session::Ran;
 use crate::session::Session;
+use crate::spoils;
 use crate::state;
 use calls::Call;
 use entries::Entry;
@@ -162,38 +163,6 @@ fn make(
     }
 }
 
-fn record(records: Records, space: Space) -> Record {
-    match space {
-        Space::Initial => records.initial,
-        Space::Handshake => records.handshake,
-        Space::Application => records.application,
-    }
-}
-
-// The records with another one for a space.
-fn with(records: Records, space: Space, r: Record) -> Records {
-    let initial = records.initial;
-    let handshake = records.handshake;
-    let application = records.application;
-    match space {
-        Space::Initial => Records {
-            initial: r,
-            handshake,
-            application,
-        },
-        Space::Handshake => Records {
-            initial,
-            handshake: r,
-            application,
-        },
-        Space::Application => Records {
-            initial,
-            handshake,
-            application: r,
-        },
-    }
-}
-
 fn mark(
     c: Conn,
     records: Records,
@@ -202,11 +171,11 @@ fn mark(
     number: u64,
     out: &mut [u8; 16384],
 ) -> Ran {
-    let taken = record(records, space).take(number);
+    let taken = session::record(records, space).take(number);
     let answer = taken.answer;
     let o = say::number(out, 0, answer.number());
     let r = taken.record;
-    state::end(out, o, c, with(records, space, r), table)
+    state::end(out, o, c, session::with(records, space, r), table)
 }
 
 // Writes the acknowledgement of a record into an output of so many bytes, which `frame` has.
@@ -219,7 +188,7 @@ fn acknowledge(r: Record, delay: u64, frame: &mut [u8], room: usize) -> Wrote {
 
 fn ack(records: Records, space: Space, delay: u64, room: usize, out: &mut [u8; 16384]) -> usize {
     let mut frame = [0u8; 2048];
-    let r = record(records, space);
+    let r = session::record(records, space);
     let w = acknowledge(r, delay, &mut frame, room);
     say::wrote(out, w, &frame)
 }
@@ -239,6 +208,10 @@ fn on(now: Session, within: Within, s: &[u8], out: &mut [u8; 16384]) -> Ran {
             len: ack(records, space, delay, room, out),
         },
         Within::Mark { space, number } => mark(c, records, table, space, number, out),
+        Within::Set { spoil } => Ran {
+            session: spoils::spoiled(now, spoil),
+            len: say::text(out, 0, b"ok"),
+        },
     }
 }
 

@@ -46,7 +46,7 @@ use denote.Triple.Walked.{says, Stays, stay-slice, stay-none, walkOf, goes-slice
 use denote.Exit.{yes}
 use Rattle.answers.specs.declared.Answer.the-variants.{DoesNotFit}
 use Rattle.entries.specs.Entry.{fresh, entryAt}
-use Rattle.limits.specs.Fits as whole
+use Rattle.limits.specs.Fits as limits
 use Rattle.calls.specs.Calls.{streamIn, repliedOf}
 use Rattle.local.specs.Calling.{callPlace, calledAt, calledTable}
 use Rattle.tables.proofs.Leave.{stand, leaves}
@@ -94,8 +94,8 @@ abbrev stayed : Stays (f.ended .signature .params) (f.ended .kept)
 stayed = (stay-none (λ _. TConn.the-row) yes, (stay-slice (0 ∷ []) tt (plain (λ _. TEntry.the-row)), (stay-none (λ _. TCall.the-row) yes, tt)))
 
 module _ {M : Type 1} (𝓤 : URA M) (H : Heap 𝓤) (A : Atoms 𝓤) (mem : Memory → SProp 𝓤) (run : Routine → Fun 𝓤) where
-  abbrev Whole : Contract 𝓤
-  Whole = tripleOf 𝓤 H A fits-fn.signature (fits-fn.spec 𝓤 H A mem run)
+  abbrev Fits : Contract 𝓤
+  Fits = tripleOf 𝓤 H A fits-fn.signature (fits-fn.spec 𝓤 H A mem run)
 
   abbrev Place : Contract 𝓤
   Place = tripleOf 𝓤 H A place.signature (place.spec 𝓤 H A mem run)
@@ -128,7 +128,7 @@ module _ {M : Type 1} (𝓤 : URA M) (H : Heap 𝓤) (A : Atoms 𝓤) (W : Given
       qed W (Had zs) ∵ suffices ! _ (ends-at 𝓤 H A f.ended stayed (f.clauses 𝓤 H A mem run) W bound (LL.val TCalled.the-type TCalled′.the-laws r) r (tt, (zs, (tt, tt))) (tt, (el, (tt, tt)))) $ says ! said $ nothing ! $ move ! (3 ∷ 0 ∷ []) $ join ! $ frame ! $ fjoin ! $ pureI ! (at-slice TEntry.the-row (record { ptr = (b, o); name = γ; now = zs }) (at .1 .0)) (tt, (tt, tt)) (ap (λ (m : ℕ). sliceVal (b, o) m ∷ []) (sym el), subst (Room TEntry.the-row) (sym el) gn) $ fjoin ! $ nothing ! $ owned ! TCall.the-row (Is TCall.the-row) (EL.makes TCall.the-type TCall′.the-plain 𝓤 H A) call _ gcall $ fjoin ! $ move ! (1 ∷ 0 ∷ []) $ fjoin ! $ owned ! TConn.the-row (Is TConn.the-row) (LL.makes TConn.the-type TConn′.the-plain 𝓤 H A) c _ gc $ fjoin ! $ owned ! TCalled.the-row (Is TCalled.the-row) (LL.makes TCalled.the-type TCalled′.the-plain 𝓤 H A) r _ gr $ move ! (1 ∷ 0 ∷ []) $ done !
 
   abbrev ok : Bool
-  ok = whole.fits c ys
+  ok = limits.fits c ys
 
   abbrev i₀ : ℕ
   i₀ = callPlace call
@@ -156,7 +156,7 @@ module _ {M : Type 1} (𝓤 : URA M) (H : Heap 𝓤) (A : Atoms 𝓤) (W : Given
   unfolding calledAt calledTable
   judged e = rw e (refl, refl)
 
-  module _ (𝓣 : Tables 𝓤 H) (known-fits : Triple 𝓤 (𝓣 .C #fits) (Whole 𝓤 H A mem run)) (known-place : Triple 𝓤 (𝓣 .C #place) (Place 𝓤 H A mem run)) (known-judge : Triple 𝓤 (𝓣 .C #judge) (Judge 𝓤 H A mem run)) where
+  module _ (𝓣 : Tables 𝓤 H) (known-fits : Triple 𝓤 (𝓣 .C #fits) (Fits 𝓤 H A mem run)) (known-place : Triple 𝓤 (𝓣 .C #place) (Place 𝓤 H A mem run)) (known-judge : Triple 𝓤 (𝓣 .C #judge) (Judge 𝓤 H A mem run)) where
     abbrev C : Calls 𝓤 H
     C = 𝓣 .C
 
@@ -175,7 +175,7 @@ module _ {M : Type 1} (𝓤 : URA M) (H : Heap 𝓤) (A : Atoms 𝓤) (W : Given
       body =
           assigns ! (addr ! (from ! (fld ! refl (hop ! (look-in ! 28 (sub ! 0 refl (whole !))) (stop !))))) (from ! (stop !)) (init ! 18 refl (tt, tt)) $
           assigns ! (agg ! (and-then ! (load ! (from ! (stop !)) (look ! 18 refl)) (and-then ! (load ! (from ! (fld ! refl (stop !))) (look-in ! 28 (sub ! 1 refl (whole !)))) (no-more !)))) (from ! (stop !)) (init ! 16 refl (tt, (tt, (record { fits = gn .0 }, tt)))) $
-          lends-fn ! fm fits-fn.ended (fits-fn.clauses 𝓤 H A mem run) known-fits TEntry.the-row fullShare ys b o gn (named 0) (λ ν γ. (((ν ∷ [], tt), (fullShare, tt), tt, (c, (ref TEntry.the-row ys b o γ, tt)), (LL.val TConn.the-type TConn′.the-laws c ∷ [], (vals TEntry.the-row ys b o, tt))), tt)) (false ∷ true ∷ []) (λ ν γ. (refl, refl)) (λ ν γ. (LL.makes TConn.the-type TConn′.the-plain 𝓤 H A c _ gc, tt)) (λ ν γ. (id⊢ 𝓤 _)) (λ ν γ. whole.fits c ys) (λ ν γ. bool-vals) (λ ν γ. bool-tells) (vbool (whole.fits c ys)) (Is bool (whole.fits c ys) (vbool (whole.fits c ys) ∷ [])) (λ ν γ v g. g) (λ ν γ r ws. id⊢ 𝓤 _)
+          lends-fn ! fm fits-fn.ended (fits-fn.clauses 𝓤 H A mem run) known-fits TEntry.the-row fullShare ys b o gn (named 0) (λ ν γ. (((ν ∷ [], tt), (fullShare, tt), tt, (c, (ref TEntry.the-row ys b o γ, tt)), (LL.val TConn.the-type TConn′.the-laws c ∷ [], (vals TEntry.the-row ys b o, tt))), tt)) (false ∷ true ∷ []) (λ ν γ. (refl, refl)) (λ ν γ. (LL.makes TConn.the-type TConn′.the-plain 𝓤 H A c _ gc, tt)) (λ ν γ. (id⊢ 𝓤 _)) (λ ν γ. limits.fits c ys) (λ ν γ. bool-vals) (λ ν γ. bool-tells) (vbool (limits.fits c ys)) (Is bool (limits.fits c ys) (vbool (limits.fits c ys) ∷ [])) (λ ν γ v g. g) (λ ν γ r ws. id⊢ 𝓤 _)
           (λ ν γ. (and-then ! (load ! (from ! (stop !)) (look ! 31 refl)) (and-then ! (load ! (from ! (stop !)) (look ! 17 refl)) (no-more !)))) (λ gw. land ! (from ! (stop !)) (init ! 20 refl (tt, tt)) $
           assigns ! (un ! (load ! (from ! (stop !)) (look ! 20 refl)) tt) (from ! (stop !)) (init ! 14 refl (tt, tt)) $
           first ! $ branches ! (load ! (from ! (stop !)) (look ! 14 refl))
@@ -235,11 +235,11 @@ module _ {M : Type 1} (𝓤 : URA M) (H : Heap 𝓤) (A : Atoms 𝓤) (W : Given
         pass1 ! (init ! 26 refl (LL.lawful TConn.the-type TConn′.the-laws 𝓤 H A W .typed c _ gc .0)) $ pass1 ! (init ! 24 refl (tt, (tt, (record { fits = gn .0 }, tt)))) $ pass1 ! (init ! 22 refl (EL.lawful TCall.the-type TCall′.the-laws 𝓤 H A W tt .typed call _ gcall .0)) $ pass0 ! $ move ! (31 ∷ []) $ fsplit ! $ drop ! $ fsplit ! $ fsplit ! $ drop ! $ fsplit ! $ move ! (33 ∷ []) $ split ! $ move ! (2 ∷ 3 ∷ 0 ∷ []) $ opens-slice ! tt TEntry.the-row ys b o $ keep ! (0 ∷ 1 ∷ 2 ∷ 3 ∷ 6 ∷ 7 ∷ 8 ∷ 9 ∷ 10 ∷ 11 ∷ 12 ∷ 13 ∷ 14 ∷ 15 ∷ 16 ∷ 17 ∷ 18 ∷ 19 ∷ 20 ∷ 21 ∷ 22 ∷ 23 ∷ 24 ∷ 25 ∷ 26 ∷ 27 ∷ 28 ∷ 29 ∷ 30 ∷ 31 ∷ 32 ∷ 33 ∷ 34 ∷ 35 ∷ []) $ body l₀ l₁ l₂ l₃ l₄ l₅ l₆ l₇ l₈ l₉ l₁₀ l₁₁ l₁₂ l₁₃ l₁₄)))))))))))))))
 
 module _ {M : Type 1} (𝓤 : URA M) (H : Heap 𝓤) (A : Atoms 𝓤) (W : Given 𝓤 H A) (mem : Memory → SProp 𝓤) (run : Routine → Fun 𝓤) (𝓣 : Tables 𝓤 H) where
-  f-walks : Triple 𝓤 (𝓣 .C #fits) (Whole 𝓤 H A mem run) → Triple 𝓤 (𝓣 .C #place) (Place 𝓤 H A mem run) → Triple 𝓤 (𝓣 .C #judge) (Judge 𝓤 H A mem run) → Walks 𝓤 H A f.ended stayed (WpFn 𝓤 H (𝓣 .C) (𝓣 .Λ) code.function) (f.clauses 𝓤 H A mem run)
+  f-walks : Triple 𝓤 (𝓣 .C #fits) (Fits 𝓤 H A mem run) → Triple 𝓤 (𝓣 .C #place) (Place 𝓤 H A mem run) → Triple 𝓤 (𝓣 .C #judge) (Judge 𝓤 H A mem run) → Walks 𝓤 H A f.ended stayed (WpFn 𝓤 H (𝓣 .C) (𝓣 .Λ) code.function) (f.clauses 𝓤 H A mem run)
   f-walks known-fits known-place known-judge = walked 𝓤 H A f.ended stayed (f.clauses 𝓤 H A mem run) (WpFn 𝓤 H (𝓣 .C) (𝓣 .Λ) code.function) (λ κs. (LL.vals TConn.the-type TConn′.the-laws, (slice-vals, (EL.vals TCall.the-type TCall′.the-laws, tt)))) (λ κs. (LL.tells TConn.the-type TConn′.the-laws, (mut-slice-tells (named 0) (κs .0) TEntry.the-row, (EL.tells TCall.the-type TCall′.the-laws, tt))))
       (λ κs qs bounds a g are. via 𝓤 _ (fst∗ 𝓤 _ (emp 𝓤)) (walk 𝓤 H A W mem run (κs .0) (qs .0) (a .0) (a .1 .0 .ptr .0) (a .1 .0 .ptr .1) (a .1 .0 .name) (a .1 .0 .now) (a .1 .1 .0) (are .0) (are .1 .0 .0 .1) (are .1 .1 .0) 𝓣 known-fits known-place known-judge))
 
-  f-meets : Triple 𝓤 (𝓣 .C #fits) (Whole 𝓤 H A mem run) → Triple 𝓤 (𝓣 .C #place) (Place 𝓤 H A mem run) → Triple 𝓤 (𝓣 .C #judge) (Judge 𝓤 H A mem run) → Meets 𝓤 H A f.signature (WpFn 𝓤 H (𝓣 .C) (𝓣 .Λ) code.function) (f.spec 𝓤 H A mem run)
+  f-meets : Triple 𝓤 (𝓣 .C #fits) (Fits 𝓤 H A mem run) → Triple 𝓤 (𝓣 .C #place) (Place 𝓤 H A mem run) → Triple 𝓤 (𝓣 .C #judge) (Judge 𝓤 H A mem run) → Meets 𝓤 H A f.signature (WpFn 𝓤 H (𝓣 .C) (𝓣 .Λ) code.function) (f.spec 𝓤 H A mem run)
   f-meets known-fits known-place known-judge =
       walk-meets 𝓤 H A f.ended stayed W (goes-none 𝓤 H A W 1 (λ _. TConn.the-row) yes (λ κs x f. refl), (goes-slice 𝓤 H A W 1 0 tt (plain (λ _. TEntry.the-row)), (goes-none 𝓤 H A W 1 (λ _. TCall.the-row) yes (λ κs x f. refl), tt))) (f.clauses 𝓤 H A mem run)
       (WpFn 𝓤 H (𝓣 .C) (𝓣 .Λ) code.function) (WpFn-mono 𝓤 H (W .laws) 𝓣 code.function) (f-walks known-fits known-place known-judge)
@@ -250,6 +250,6 @@ call-spec 𝓤 H 𝓜 𝓖 𝓡 =
     entered 𝓤 H (tripleOf 𝓤 H (𝓖 .A) f.signature (f.spec 𝓤 H (𝓖 .A) (𝓜 .mem) (𝓡 .run)))
     (tables 𝓤 H 𝓜 𝓡 code.env .C) (tables 𝓤 H 𝓜 𝓡 code.env .Λ) #f code.function (code.unfolded 𝓤 H 𝓜 𝓡)
     (f-meets 𝓤 H (𝓖 .A) (givenOf 𝓤 H 𝓜 𝓖) (𝓜 .mem) (𝓡 .run) (tablesOf 𝓤 H 𝓜 (tables 𝓤 H 𝓜 𝓡 code.env))
-    (cited 𝓤 H (Whole 𝓤 H (𝓖 .A) (𝓜 .mem) (𝓡 .run)) 𝓜 𝓡 code.env #fits fits-def.routine code.calls-tables·fits (fits-thm.met 𝓤 H 𝓜 𝓖 𝓡))
+    (cited 𝓤 H (Fits 𝓤 H (𝓖 .A) (𝓜 .mem) (𝓡 .run)) 𝓜 𝓡 code.env #fits fits-def.routine code.calls-tables·fits (fits-thm.met 𝓤 H 𝓜 𝓖 𝓡))
     (cited 𝓤 H (Place 𝓤 H (𝓖 .A) (𝓜 .mem) (𝓡 .run)) 𝓜 𝓡 code.env #place place-def.routine code.calls-calls·place (place-thm.met 𝓤 H 𝓜 𝓖 𝓡))
     (cited 𝓤 H (Judge 𝓤 H (𝓖 .A) (𝓜 .mem) (𝓡 .run)) 𝓜 𝓡 code.env #judge judge-def.routine code.calls-calls·judge (judge-thm.met 𝓤 H 𝓜 𝓖 𝓡)))

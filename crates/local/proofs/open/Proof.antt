@@ -57,20 +57,20 @@ use Rattle.local.proofs.open as f
 use Rattle.local.proofs.open.Statement as stated
 use Rattle.local.proofs.open.Code as code
 use Rattle.local.proofs.open.Code.Mir as mir
-use Rattle.opening.proofs.for_table.Symbol as opening-def
-use Rattle.opening.proofs.for_table.Symbol.{name as #opening}
-use Rattle.opening.proofs.for_table.Met as opening-thm
-use Rattle.opening.proofs.count.Symbol as entries-def
-use Rattle.opening.proofs.count.Symbol.{name as #entries}
-use Rattle.opening.proofs.count.Met as entries-thm
+use Rattle.opening.proofs.for_table.Symbol as for-table-def
+use Rattle.opening.proofs.for_table.Symbol.{name as #for-table}
+use Rattle.opening.proofs.for_table.Met as for-table-thm
+use Rattle.opening.proofs.count.Symbol as count-def
+use Rattle.opening.proofs.count.Symbol.{name as #count}
+use Rattle.opening.proofs.count.Met as count-thm
 use Rattle.local.proofs.fill.Symbol as fill-def
 use Rattle.local.proofs.fill.Symbol.{name as #fill}
 use Rattle.local.proofs.fill.Met as fill-thm
 use denote.Enum.Laws as EL
 use Rattle.answers.proofs.Answer as TAnswer
 use Rattle.answers.proofs.Answer.Laws as TAnswer′
-use Rattle.opening.proofs.count as entries-fn
-use Rattle.opening.proofs.for_table as opening-fn
+use Rattle.opening.proofs.count as count-fn
+use Rattle.opening.proofs.for_table as for-table-fn
 use Rattle.tables.proofs.Handed.{lends-mut-fn, calls-fn}
 use Rattle.local.proofs.fill as fill-fn
 use mathlib.Core.Bool.{true}
@@ -82,11 +82,11 @@ module _ {M : Type 1} (𝓤 : URA M) (H : Heap 𝓤) (A : Atoms 𝓤) (mem : Mem
   abbrev Fill : Contract 𝓤
   Fill = tripleOf 𝓤 H A fill-fn.signature (fill-fn.spec 𝓤 H A mem run)
 
-  abbrev Entries : Contract 𝓤
-  Entries = tripleOf 𝓤 H A entries-fn.signature (entries-fn.spec 𝓤 H A mem run)
+  abbrev Counts : Contract 𝓤
+  Counts = tripleOf 𝓤 H A count-fn.signature (count-fn.spec 𝓤 H A mem run)
 
-  abbrev Opening : Contract 𝓤
-  Opening = tripleOf 𝓤 H A opening-fn.signature (opening-fn.spec 𝓤 H A mem run)
+  abbrev ForTable : Contract 𝓤
+  ForTable = tripleOf 𝓤 H A for-table-fn.signature (for-table-fn.spec 𝓤 H A mem run)
 
 module _ {M : Type 1} (𝓤 : URA M) (H : Heap 𝓤) (A : Atoms 𝓤) (W : Given 𝓤 H A) (mem : Memory → SProp 𝓤) (run : Routine → Fun 𝓤) (κ : Lft) (q : Share) (b o : ℕ) (γ : GName) (ys : List Entry) (limits : Limits)
     (gn : Room TEntry.the-row (length ys)) (glimits : Is TLimits.the-row limits (LL.val TLimits.the-type TLimits′.the-laws limits ∷ [])) where
@@ -125,7 +125,7 @@ module _ {M : Type 1} (𝓤 : URA M) (H : Heap 𝓤) (A : Atoms 𝓤) (W : Given
   unfolding openedTable
   told = (refl, refl)
 
-  module _ (𝓣 : Tables 𝓤 H) (known-opening : Triple 𝓤 (𝓣 .C #opening) (Opening 𝓤 H A mem run)) (known-entries : Triple 𝓤 (𝓣 .C #entries) (Entries 𝓤 H A mem run)) (known-fill : Triple 𝓤 (𝓣 .C #fill) (Fill 𝓤 H A mem run)) where
+  module _ (𝓣 : Tables 𝓤 H) (known-for-table : Triple 𝓤 (𝓣 .C #for-table) (ForTable 𝓤 H A mem run)) (known-count : Triple 𝓤 (𝓣 .C #count) (Counts 𝓤 H A mem run)) (known-fill : Triple 𝓤 (𝓣 .C #fill) (Fill 𝓤 H A mem run)) where
     abbrev C : Calls 𝓤 H
     C = 𝓣 .C
 
@@ -143,9 +143,9 @@ module _ {M : Type 1} (𝓤 : URA M) (H : Heap 𝓤) (A : Atoms 𝓤) (W : Given
           ∷ stand 𝓤 H A En (none ∷ some (sliceVal (b, o) (length ys)) ∷ some (LL.val TLimits.the-type TLimits′.the-laws limits) ∷ [])) (runs C Λ En mir.t-1 (atRet En Post))
       body =
           assigns ! (of-opd ! (load ! (from ! (fld ! refl (stop !))) (look-in ! 18 (sub ! 1 refl (whole !))))) (from ! (stop !)) (init ! 10 refl (tt, record { fits = gn .0 })) $
-          calls-fn ! fm opening-fn.ended (opening-fn.clauses 𝓤 H A mem run) known-opening ((tt, tt, tt, ((length ys), (limits, tt)), (vint w64 (length ys) ∷ [], (LL.val TLimits.the-type TLimits′.the-laws limits ∷ [], tt))), tt) (id⊢ 𝓤 _) (uint-makes 𝓤 H A W w64 (length ys) _ (refl, (gn .0)), (LL.makes TLimits.the-type TLimits′.the-plain 𝓤 H A limits _ glimits, tt)) (id⊢ 𝓤 _) (openingWhen (length ys) limits) (LL.vals TOpened.the-type TOpened′.the-laws) (LL.tells TOpened.the-type TOpened′.the-laws) (λ r e. refl)
+          calls-fn ! fm for-table-fn.ended (for-table-fn.clauses 𝓤 H A mem run) known-for-table ((tt, tt, tt, ((length ys), (limits, tt)), (vint w64 (length ys) ∷ [], (LL.val TLimits.the-type TLimits′.the-laws limits ∷ [], tt))), tt) (id⊢ 𝓤 _) (uint-makes 𝓤 H A W w64 (length ys) _ (refl, (gn .0)), (LL.makes TLimits.the-type TLimits′.the-plain 𝓤 H A limits _ glimits, tt)) (id⊢ 𝓤 _) (openingWhen (length ys) limits) (LL.vals TOpened.the-type TOpened′.the-laws) (LL.tells TOpened.the-type TOpened′.the-laws) (λ r e. refl)
           (and-then ! (load ! (from ! (stop !)) (look ! 11 refl)) (and-then ! (load ! (from ! (stop !)) (look ! 17 refl)) (no-more !))) (λ go. land ! (from ! (stop !)) (init ! 14 refl (LL.lawful TOpened.the-type TOpened′.the-laws 𝓤 H A W .typed out _ go .0)) $
-          calls-fn ! fm entries-fn.ended (entries-fn.clauses 𝓤 H A mem run) known-entries ((tt, tt, tt, ((out .answer), tt), (EL.val TAnswer.the-type TAnswer′.the-laws (out .answer) ∷ [], tt)), tt) (id⊢ 𝓤 _) (EL.makes TAnswer.the-type TAnswer′.the-plain 𝓤 H A (out .answer) _ (LL.owed TOpened.the-type TOpened′.the-laws out _ go .0), tt) (id⊢ 𝓤 _) (entriesOf (out .answer)) (uint-vals w64) (uint-tells w64) (λ r e. refl)
+          calls-fn ! fm count-fn.ended (count-fn.clauses 𝓤 H A mem run) known-count ((tt, tt, tt, ((out .answer), tt), (EL.val TAnswer.the-type TAnswer′.the-laws (out .answer) ∷ [], tt)), tt) (id⊢ 𝓤 _) (EL.makes TAnswer.the-type TAnswer′.the-plain 𝓤 H A (out .answer) _ (LL.owed TOpened.the-type TOpened′.the-laws out _ go .0), tt) (id⊢ 𝓤 _) (entriesOf (out .answer)) (uint-vals w64) (uint-tells w64) (λ r e. refl)
           (and-then ! (load ! (from ! (fld ! refl (stop !))) (look-in ! 15 (sub ! 0 refl (whole !)))) (no-more !)) (λ gk. land ! (from ! (stop !)) (init ! 12 refl (tt, record { fits = gk .1 })) $
           assigns ! (addr ! (from ! (fld ! refl (hop ! (look-in ! 18 (sub ! 0 refl (whole !))) (stop !))))) (from ! (stop !)) (init ! 6 refl (tt, tt)) $
           assigns ! (agg ! (and-then ! (load ! (from ! (stop !)) (look ! 6 refl)) (and-then ! (load ! (from ! (fld ! refl (stop !))) (look-in ! 18 (sub ! 1 refl (whole !)))) (no-more !)))) (from ! (stop !)) (init ! 4 refl (tt, (tt, (record { fits = gn .0 }, tt)))) $
@@ -164,14 +164,14 @@ module _ {M : Type 1} (𝓤 : URA M) (H : Heap 𝓤) (A : Atoms 𝓤) (W : Given
         pass1 ! (init ! 14 refl (tt, (tt, (record { fits = gn .0 }, tt)))) $ pass1 ! (init ! 12 refl (LL.lawful TLimits.the-type TLimits′.the-laws 𝓤 H A W .typed limits _ glimits .0)) $ pass0 ! $ move ! (19 ∷ []) $ fsplit ! $ fsplit ! $ drop ! $ fsplit ! $ move ! (21 ∷ []) $ split ! $ move ! (2 ∷ 3 ∷ 0 ∷ []) $ opens-slice ! tt TEntry.the-row ys b o $ keep ! (0 ∷ 1 ∷ 2 ∷ 3 ∷ 6 ∷ 7 ∷ 8 ∷ 9 ∷ 10 ∷ 11 ∷ 12 ∷ 13 ∷ 14 ∷ 15 ∷ 16 ∷ 17 ∷ 18 ∷ 19 ∷ 20 ∷ 21 ∷ 22 ∷ 23 ∷ []) $ body l₀ l₁ l₂ l₃ l₄ l₅ l₆ l₇ l₈)))))))))
 
 module _ {M : Type 1} (𝓤 : URA M) (H : Heap 𝓤) (A : Atoms 𝓤) (W : Given 𝓤 H A) (mem : Memory → SProp 𝓤) (run : Routine → Fun 𝓤) (𝓣 : Tables 𝓤 H) where
-  f-walks : Triple 𝓤 (𝓣 .C #opening) (Opening 𝓤 H A mem run) → Triple 𝓤 (𝓣 .C #entries) (Entries 𝓤 H A mem run) → Triple 𝓤 (𝓣 .C #fill) (Fill 𝓤 H A mem run) → Walks 𝓤 H A f.ended stayed (WpFn 𝓤 H (𝓣 .C) (𝓣 .Λ) code.function) (f.clauses 𝓤 H A mem run)
-  f-walks known-opening known-entries known-fill = walked 𝓤 H A f.ended stayed (f.clauses 𝓤 H A mem run) (WpFn 𝓤 H (𝓣 .C) (𝓣 .Λ) code.function) (λ κs. (slice-vals, (LL.vals TLimits.the-type TLimits′.the-laws, tt))) (λ κs. (mut-slice-tells (named 0) (κs .0) TEntry.the-row, (LL.tells TLimits.the-type TLimits′.the-laws, tt)))
-      (λ κs qs bounds a g are. via 𝓤 _ (fst∗ 𝓤 _ (emp 𝓤)) (walk 𝓤 H A W mem run (κs .0) (qs .0) (a .0 .ptr .0) (a .0 .ptr .1) (a .0 .name) (a .0 .now) (a .1 .0) (are .0 .0 .1) (are .1 .0) 𝓣 known-opening known-entries known-fill))
+  f-walks : Triple 𝓤 (𝓣 .C #for-table) (ForTable 𝓤 H A mem run) → Triple 𝓤 (𝓣 .C #count) (Counts 𝓤 H A mem run) → Triple 𝓤 (𝓣 .C #fill) (Fill 𝓤 H A mem run) → Walks 𝓤 H A f.ended stayed (WpFn 𝓤 H (𝓣 .C) (𝓣 .Λ) code.function) (f.clauses 𝓤 H A mem run)
+  f-walks known-for-table known-count known-fill = walked 𝓤 H A f.ended stayed (f.clauses 𝓤 H A mem run) (WpFn 𝓤 H (𝓣 .C) (𝓣 .Λ) code.function) (λ κs. (slice-vals, (LL.vals TLimits.the-type TLimits′.the-laws, tt))) (λ κs. (mut-slice-tells (named 0) (κs .0) TEntry.the-row, (LL.tells TLimits.the-type TLimits′.the-laws, tt)))
+      (λ κs qs bounds a g are. via 𝓤 _ (fst∗ 𝓤 _ (emp 𝓤)) (walk 𝓤 H A W mem run (κs .0) (qs .0) (a .0 .ptr .0) (a .0 .ptr .1) (a .0 .name) (a .0 .now) (a .1 .0) (are .0 .0 .1) (are .1 .0) 𝓣 known-for-table known-count known-fill))
 
-  f-meets : Triple 𝓤 (𝓣 .C #opening) (Opening 𝓤 H A mem run) → Triple 𝓤 (𝓣 .C #entries) (Entries 𝓤 H A mem run) → Triple 𝓤 (𝓣 .C #fill) (Fill 𝓤 H A mem run) → Meets 𝓤 H A f.signature (WpFn 𝓤 H (𝓣 .C) (𝓣 .Λ) code.function) (f.spec 𝓤 H A mem run)
-  f-meets known-opening known-entries known-fill =
+  f-meets : Triple 𝓤 (𝓣 .C #for-table) (ForTable 𝓤 H A mem run) → Triple 𝓤 (𝓣 .C #count) (Counts 𝓤 H A mem run) → Triple 𝓤 (𝓣 .C #fill) (Fill 𝓤 H A mem run) → Meets 𝓤 H A f.signature (WpFn 𝓤 H (𝓣 .C) (𝓣 .Λ) code.function) (f.spec 𝓤 H A mem run)
+  f-meets known-for-table known-count known-fill =
       walk-meets 𝓤 H A f.ended stayed W (goes-slice 𝓤 H A W 1 0 tt (plain (λ _. TEntry.the-row)), (goes-none 𝓤 H A W 1 (λ _. TLimits.the-row) yes (λ κs x f. refl), tt)) (f.clauses 𝓤 H A mem run)
-      (WpFn 𝓤 H (𝓣 .C) (𝓣 .Λ) code.function) (WpFn-mono 𝓤 H (W .laws) 𝓣 code.function) (f-walks known-opening known-entries known-fill)
+      (WpFn 𝓤 H (𝓣 .C) (𝓣 .Λ) code.function) (WpFn-mono 𝓤 H (W .laws) 𝓣 code.function) (f-walks known-for-table known-count known-fill)
 
 pub open-spec : {M : Type 1} → stated.statement M
 unfolding code.routine tablesOf
@@ -179,6 +179,6 @@ open-spec 𝓤 H 𝓜 𝓖 𝓡 =
     entered 𝓤 H (tripleOf 𝓤 H (𝓖 .A) f.signature (f.spec 𝓤 H (𝓖 .A) (𝓜 .mem) (𝓡 .run)))
     (tables 𝓤 H 𝓜 𝓡 code.env .C) (tables 𝓤 H 𝓜 𝓡 code.env .Λ) #f code.function (code.unfolded 𝓤 H 𝓜 𝓡)
     (f-meets 𝓤 H (𝓖 .A) (givenOf 𝓤 H 𝓜 𝓖) (𝓜 .mem) (𝓡 .run) (tablesOf 𝓤 H 𝓜 (tables 𝓤 H 𝓜 𝓡 code.env))
-    (cited 𝓤 H (Opening 𝓤 H (𝓖 .A) (𝓜 .mem) (𝓡 .run)) 𝓜 𝓡 code.env #opening opening-def.routine code.calls-opening·for-table (opening-thm.met 𝓤 H 𝓜 𝓖 𝓡))
-    (cited 𝓤 H (Entries 𝓤 H (𝓖 .A) (𝓜 .mem) (𝓡 .run)) 𝓜 𝓡 code.env #entries entries-def.routine code.calls-opening·count (entries-thm.met 𝓤 H 𝓜 𝓖 𝓡))
+    (cited 𝓤 H (ForTable 𝓤 H (𝓖 .A) (𝓜 .mem) (𝓡 .run)) 𝓜 𝓡 code.env #for-table for-table-def.routine code.calls-opening·for-table (for-table-thm.met 𝓤 H 𝓜 𝓖 𝓡))
+    (cited 𝓤 H (Counts 𝓤 H (𝓖 .A) (𝓜 .mem) (𝓡 .run)) 𝓜 𝓡 code.env #count count-def.routine code.calls-opening·count (count-thm.met 𝓤 H 𝓜 𝓖 𝓡))
     (cited 𝓤 H (Fill 𝓤 H (𝓖 .A) (𝓜 .mem) (𝓡 .run)) 𝓜 𝓡 code.env #fill fill-def.routine code.calls-local·fill (fill-thm.met 𝓤 H 𝓜 𝓖 𝓡)))

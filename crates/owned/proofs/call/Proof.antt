@@ -62,9 +62,9 @@ use Rattle.owned.proofs.call as f
 use Rattle.owned.proofs.call.Statement as stated
 use Rattle.owned.proofs.call.Code as code
 use Rattle.owned.proofs.call.Code.Mir as mir
-use Rattle.local.proofs.call.Symbol as stream-def
-use Rattle.local.proofs.call.Symbol.{name as #stream}
-use Rattle.local.proofs.call.Met as stream-thm
+use Rattle.local.proofs.call.Symbol as call-def
+use Rattle.local.proofs.call.Symbol.{name as #call}
+use Rattle.local.proofs.call.Met as call-thm
 use Rattle.tables.proofs.Handed.{lends-mut-fn}
 use Rattle.local.proofs.call as call-fn
 use mathlib.Core.Bool.{true, false}
@@ -109,7 +109,7 @@ module _ {M : Type 1} (𝓤 : URA M) (H : Heap 𝓤) (A : Atoms 𝓤) (W : Given
   abbrev out : OwnedCall
   out = record { called = answer; table = zs₀ }
 
-  module _ (𝓣 : Tables 𝓤 H) (known-stream : Triple 𝓤 (𝓣 .C #stream) (Call′ 𝓤 H A mem run)) where
+  module _ (𝓣 : Tables 𝓤 H) (known-call : Triple 𝓤 (𝓣 .C #call) (Call′ 𝓤 H A mem run)) where
     abbrev C : Calls 𝓤 H
     C = 𝓣 .C
 
@@ -131,7 +131,7 @@ module _ {M : Type 1} (𝓤 : URA M) (H : Heap 𝓤) (A : Atoms 𝓤) (W : Given
           move ! (8 ∷ []) $
           use1 W (‵ (row TEntry.the-row fullShare ts l₄ 0)) (apart 𝓤 H A W TEntry.the-row 192 tt ts _ l₄ 0 (array-makes 𝓤 H A W TEntry.the-row (LL.makes TEntry.the-type TEntry′.the-plain 𝓤 H A) 192) gts) $
           rewrite ! 3 (λ (m : ℕ). ‵ (fat fullShare (sliceTy (tyRef erased mut (pointee (TEntry.the-row .written)))) l₇ 0 (sliceVal (l₄, 0) m))) (sym (long gts)) refl $
-          lends-mut-fn ! fm call-fn.ended (call-fn.clauses 𝓤 H A mem run) known-stream TEntry.the-row ts l₄ 0 (room gts) (named 0) (λ ν γ. (((ν ∷ [], tt), (fullShare, tt), tt, (c, (ref TEntry.the-row ts l₄ 0 γ, (call, tt))), (LL.val TConn.the-type TConn′.the-laws c ∷ [], (vals TEntry.the-row ts l₄ 0, (EL.val TCall.the-type TCall′.the-laws call ∷ [], tt)))), tt)) (false ∷ true ∷ []) (λ ν γ. (refl, refl)) (λ ν γ. (LL.makes TConn.the-type TConn′.the-plain 𝓤 H A c _ gc, (EL.makes TCall.the-type TCall′.the-plain 𝓤 H A call _ gcall, tt))) (λ ν γ. (id⊢ 𝓤 _)) (λ ν γ. calledAt c ts call) (λ ν γ. LL.vals TCalled.the-type TCalled′.the-laws) (λ ν γ. LL.tells TCalled.the-type TCalled′.the-laws) (LL.val TCalled.the-type TCalled′.the-laws (calledAt c ts call)) (Is TCalled.the-row (calledAt c ts call) (LL.val TCalled.the-type TCalled′.the-laws (calledAt c ts call) ∷ [])) (λ ν γ v g. g) (calledTable c ts call) 1 (λ ν γ ws. ws .1 .0) (λ ν γ ws. refl) (λ ν γ r ws. id⊢ 𝓤 _)
+          lends-mut-fn ! fm call-fn.ended (call-fn.clauses 𝓤 H A mem run) known-call TEntry.the-row ts l₄ 0 (room gts) (named 0) (λ ν γ. (((ν ∷ [], tt), (fullShare, tt), tt, (c, (ref TEntry.the-row ts l₄ 0 γ, (call, tt))), (LL.val TConn.the-type TConn′.the-laws c ∷ [], (vals TEntry.the-row ts l₄ 0, (EL.val TCall.the-type TCall′.the-laws call ∷ [], tt)))), tt)) (false ∷ true ∷ []) (λ ν γ. (refl, refl)) (λ ν γ. (LL.makes TConn.the-type TConn′.the-plain 𝓤 H A c _ gc, (EL.makes TCall.the-type TCall′.the-plain 𝓤 H A call _ gcall, tt))) (λ ν γ. (id⊢ 𝓤 _)) (λ ν γ. calledAt c ts call) (λ ν γ. LL.vals TCalled.the-type TCalled′.the-laws) (λ ν γ. LL.tells TCalled.the-type TCalled′.the-laws) (LL.val TCalled.the-type TCalled′.the-laws (calledAt c ts call)) (Is TCalled.the-row (calledAt c ts call) (LL.val TCalled.the-type TCalled′.the-laws (calledAt c ts call) ∷ [])) (λ ν γ v g. g) (calledTable c ts call) 1 (λ ν γ ws. ws .1 .0) (λ ν γ ws. refl) (λ ν γ r ws. id⊢ 𝓤 _)
           (λ ν δ. (and-then ! (load ! (from ! (stop !)) (look ! 15 refl)) (and-then ! (load ! (from ! (stop !)) (look ! 4 refl)) (and-then ! (load ! (from ! (stop !)) (look ! 11 refl)) (no-more !))))) (λ el gv. land ! (from ! (stop !)) (init ! 7 refl (LL.lawful TCalled.the-type TCalled′.the-laws 𝓤 H A W .typed answer _ gv .0)) $
           whole ! TEntry.the-row 192 (LL.vals TEntry.the-type TEntry′.the-laws) (LL.tells TEntry.the-type TEntry′.the-laws) zs₀ l₄ 0 (el ∙ long gts) (λ gz. assigns ! (of-opd ! (load ! (from ! (stop !)) (look ! 0 refl))) (from ! (stop !)) (init ! 1 refl (array-lawful 𝓤 H A W TEntry.the-row (LL.lawful TEntry.the-type TEntry′.the-laws 𝓤 H A W) 192 .typed zs₀ _ gz .0)) $
           rewrite ! 1 (λ (v : Val). ‵ (fat fullShare (tyArray TEntry′.mir 192) l₈ 0 v)) (same zs₀) refl $
@@ -154,14 +154,14 @@ module _ {M : Type 1} (𝓤 : URA M) (H : Heap 𝓤) (A : Atoms 𝓤) (W : Given
         pass1 ! (init ! 14 refl (LL.lawful TConn.the-type TConn′.the-laws 𝓤 H A W .typed c _ gc .0)) $ pass1 ! (init ! 12 refl (array-lawful 𝓤 H A W TEntry.the-row (LL.lawful TEntry.the-type TEntry′.the-laws 𝓤 H A W) 192 .typed ts _ gts .0)) $ pass1 ! (init ! 10 refl (EL.lawful TCall.the-type TCall′.the-laws 𝓤 H A W tt .typed call _ gcall .0)) $ pass0 ! $ keep ! (0 ∷ 1 ∷ 2 ∷ 3 ∷ 4 ∷ 5 ∷ 6 ∷ 7 ∷ 8 ∷ 9 ∷ 10 ∷ 11 ∷ 12 ∷ 13 ∷ 14 ∷ 15 ∷ 16 ∷ 17 ∷ []) $ body l₀ l₁ l₂ l₃ l₄ l₅ l₆ l₇ l₈)))))))))
 
 module _ {M : Type 1} (𝓤 : URA M) (H : Heap 𝓤) (A : Atoms 𝓤) (W : Given 𝓤 H A) (mem : Memory → SProp 𝓤) (run : Routine → Fun 𝓤) (𝓣 : Tables 𝓤 H) where
-  f-walks : Triple 𝓤 (𝓣 .C #stream) (Call′ 𝓤 H A mem run) → Walks 𝓤 H A f.ended stayed (WpFn 𝓤 H (𝓣 .C) (𝓣 .Λ) code.function) (f.clauses 𝓤 H A mem run)
-  f-walks known-stream = walked 𝓤 H A f.ended stayed (f.clauses 𝓤 H A mem run) (WpFn 𝓤 H (𝓣 .C) (𝓣 .Λ) code.function) (λ κs. (LL.vals TConn.the-type TConn′.the-laws, (array-vals (LL.vals TEntry.the-type TEntry′.the-laws), (EL.vals TCall.the-type TCall′.the-laws, tt)))) (λ κs. (LL.tells TConn.the-type TConn′.the-laws, (array-tells TEntry.the-row (LL.vals TEntry.the-type TEntry′.the-laws) (LL.tells TEntry.the-type TEntry′.the-laws) 192, (EL.tells TCall.the-type TCall′.the-laws, tt))))
-      (λ κs qs bounds a g are. via 𝓤 _ (fst∗ 𝓤 _ (emp 𝓤)) (walk 𝓤 H A W mem run (a .0) (a .1 .0) (a .1 .1 .0) (are .0) (are .1 .0) (are .1 .1 .0) 𝓣 known-stream))
+  f-walks : Triple 𝓤 (𝓣 .C #call) (Call′ 𝓤 H A mem run) → Walks 𝓤 H A f.ended stayed (WpFn 𝓤 H (𝓣 .C) (𝓣 .Λ) code.function) (f.clauses 𝓤 H A mem run)
+  f-walks known-call = walked 𝓤 H A f.ended stayed (f.clauses 𝓤 H A mem run) (WpFn 𝓤 H (𝓣 .C) (𝓣 .Λ) code.function) (λ κs. (LL.vals TConn.the-type TConn′.the-laws, (array-vals (LL.vals TEntry.the-type TEntry′.the-laws), (EL.vals TCall.the-type TCall′.the-laws, tt)))) (λ κs. (LL.tells TConn.the-type TConn′.the-laws, (array-tells TEntry.the-row (LL.vals TEntry.the-type TEntry′.the-laws) (LL.tells TEntry.the-type TEntry′.the-laws) 192, (EL.tells TCall.the-type TCall′.the-laws, tt))))
+      (λ κs qs bounds a g are. via 𝓤 _ (fst∗ 𝓤 _ (emp 𝓤)) (walk 𝓤 H A W mem run (a .0) (a .1 .0) (a .1 .1 .0) (are .0) (are .1 .0) (are .1 .1 .0) 𝓣 known-call))
 
-  f-meets : Triple 𝓤 (𝓣 .C #stream) (Call′ 𝓤 H A mem run) → Meets 𝓤 H A f.signature (WpFn 𝓤 H (𝓣 .C) (𝓣 .Λ) code.function) (f.spec 𝓤 H A mem run)
-  f-meets known-stream =
+  f-meets : Triple 𝓤 (𝓣 .C #call) (Call′ 𝓤 H A mem run) → Meets 𝓤 H A f.signature (WpFn 𝓤 H (𝓣 .C) (𝓣 .Λ) code.function) (f.spec 𝓤 H A mem run)
+  f-meets known-call =
       walk-meets 𝓤 H A f.ended stayed W (goes-none 𝓤 H A W 0 (λ _. TConn.the-row) yes (λ κs x f. refl), (goes-none 𝓤 H A W 0 (λ _. Array TEntry.the-row 192) yes (λ κs x f. refl), (goes-none 𝓤 H A W 0 (λ _. TCall.the-row) yes (λ κs x f. refl), tt))) (f.clauses 𝓤 H A mem run)
-      (WpFn 𝓤 H (𝓣 .C) (𝓣 .Λ) code.function) (WpFn-mono 𝓤 H (W .laws) 𝓣 code.function) (f-walks known-stream)
+      (WpFn 𝓤 H (𝓣 .C) (𝓣 .Λ) code.function) (WpFn-mono 𝓤 H (W .laws) 𝓣 code.function) (f-walks known-call)
 
 pub call-spec : {M : Type 1} → stated.statement M
 unfolding code.routine tablesOf
@@ -169,4 +169,4 @@ call-spec 𝓤 H 𝓜 𝓖 𝓡 =
     entered 𝓤 H (tripleOf 𝓤 H (𝓖 .A) f.signature (f.spec 𝓤 H (𝓖 .A) (𝓜 .mem) (𝓡 .run)))
     (tables 𝓤 H 𝓜 𝓡 code.env .C) (tables 𝓤 H 𝓜 𝓡 code.env .Λ) #f code.function (code.unfolded 𝓤 H 𝓜 𝓡)
     (f-meets 𝓤 H (𝓖 .A) (givenOf 𝓤 H 𝓜 𝓖) (𝓜 .mem) (𝓡 .run) (tablesOf 𝓤 H 𝓜 (tables 𝓤 H 𝓜 𝓡 code.env))
-    (cited 𝓤 H (Call′ 𝓤 H (𝓖 .A) (𝓜 .mem) (𝓡 .run)) 𝓜 𝓡 code.env #stream stream-def.routine code.calls-local·call (stream-thm.met 𝓤 H 𝓜 𝓖 𝓡)))
+    (cited 𝓤 H (Call′ 𝓤 H (𝓖 .A) (𝓜 .mem) (𝓡 .run)) 𝓜 𝓡 code.env #call call-def.routine code.calls-local·call (call-thm.met 𝓤 H 𝓜 𝓖 𝓡)))

@@ -59,9 +59,9 @@ use Rattle.owned.proofs.open as f
 use Rattle.owned.proofs.open.Statement as stated
 use Rattle.owned.proofs.open.Code as code
 use Rattle.owned.proofs.open.Code.Mir as mir
-use Rattle.local.proofs.open.Symbol as stream-def
-use Rattle.local.proofs.open.Symbol.{name as #stream}
-use Rattle.local.proofs.open.Met as stream-thm
+use Rattle.local.proofs.open.Symbol as open-def
+use Rattle.local.proofs.open.Symbol.{name as #open}
+use Rattle.local.proofs.open.Met as open-thm
 use Rattle.tables.proofs.Handed.{lends-mut-fn}
 use Rattle.local.proofs.open as open-fn
 use mathlib.Core.Bool.{true}
@@ -106,7 +106,7 @@ module _ {M : Type 1} (𝓤 : URA M) (H : Heap 𝓤) (A : Atoms 𝓤) (W : Given
   abbrev out : OwnedOpened
   out = record { opened = answer; table = zs₀ }
 
-  module _ (𝓣 : Tables 𝓤 H) (known-stream : Triple 𝓤 (𝓣 .C #stream) (Open 𝓤 H A mem run)) where
+  module _ (𝓣 : Tables 𝓤 H) (known-open : Triple 𝓤 (𝓣 .C #open) (Open 𝓤 H A mem run)) where
     abbrev C : Calls 𝓤 H
     C = 𝓣 .C
 
@@ -128,7 +128,7 @@ module _ {M : Type 1} (𝓤 : URA M) (H : Heap 𝓤) (A : Atoms 𝓤) (W : Given
           move ! (8 ∷ []) $
           use1 W (‵ (row TEntry.the-row fullShare ts l₃ 0)) (apart 𝓤 H A W TEntry.the-row 192 tt ts _ l₃ 0 (array-makes 𝓤 H A W TEntry.the-row (LL.makes TEntry.the-type TEntry′.the-plain 𝓤 H A) 192) gts) $
           rewrite ! 3 (λ (m : ℕ). ‵ (fat fullShare (sliceTy (tyRef erased mut (pointee (TEntry.the-row .written)))) l₆ 0 (sliceVal (l₃, 0) m))) (sym (long gts)) refl $
-          lends-mut-fn ! fm open-fn.ended (open-fn.clauses 𝓤 H A mem run) known-stream TEntry.the-row ts l₃ 0 (room gts) (named 0) (λ ν γ. (((ν ∷ [], tt), (fullShare, tt), tt, (ref TEntry.the-row ts l₃ 0 γ, (limits, tt)), (vals TEntry.the-row ts l₃ 0, (LL.val TLimits.the-type TLimits′.the-laws limits ∷ [], tt))), tt)) (true ∷ []) (λ ν γ. (refl, refl)) (λ ν γ. (LL.makes TLimits.the-type TLimits′.the-plain 𝓤 H A limits _ glimits, tt)) (λ ν γ. (id⊢ 𝓤 _)) (λ ν γ. openingWhen (length ts) limits) (λ ν γ. LL.vals TOpened.the-type TOpened′.the-laws) (λ ν γ. LL.tells TOpened.the-type TOpened′.the-laws) (LL.val TOpened.the-type TOpened′.the-laws (openingWhen (length ts) limits)) (Is TOpened.the-row (openingWhen (length ts) limits) (LL.val TOpened.the-type TOpened′.the-laws (openingWhen (length ts) limits) ∷ [])) (λ ν γ v g. g) (openedTable ts limits) 0 (λ ν γ ws. ws .0) (λ ν γ ws. refl) (λ ν γ r ws. id⊢ 𝓤 _)
+          lends-mut-fn ! fm open-fn.ended (open-fn.clauses 𝓤 H A mem run) known-open TEntry.the-row ts l₃ 0 (room gts) (named 0) (λ ν γ. (((ν ∷ [], tt), (fullShare, tt), tt, (ref TEntry.the-row ts l₃ 0 γ, (limits, tt)), (vals TEntry.the-row ts l₃ 0, (LL.val TLimits.the-type TLimits′.the-laws limits ∷ [], tt))), tt)) (true ∷ []) (λ ν γ. (refl, refl)) (λ ν γ. (LL.makes TLimits.the-type TLimits′.the-plain 𝓤 H A limits _ glimits, tt)) (λ ν γ. (id⊢ 𝓤 _)) (λ ν γ. openingWhen (length ts) limits) (λ ν γ. LL.vals TOpened.the-type TOpened′.the-laws) (λ ν γ. LL.tells TOpened.the-type TOpened′.the-laws) (LL.val TOpened.the-type TOpened′.the-laws (openingWhen (length ts) limits)) (Is TOpened.the-row (openingWhen (length ts) limits) (LL.val TOpened.the-type TOpened′.the-laws (openingWhen (length ts) limits) ∷ [])) (λ ν γ v g. g) (openedTable ts limits) 0 (λ ν γ ws. ws .0) (λ ν γ ws. refl) (λ ν γ r ws. id⊢ 𝓤 _)
           (λ ν δ. (and-then ! (load ! (from ! (stop !)) (look ! 4 refl)) (and-then ! (load ! (from ! (stop !)) (look ! 11 refl)) (no-more !)))) (λ el gv. land ! (from ! (stop !)) (init ! 7 refl (LL.lawful TOpened.the-type TOpened′.the-laws 𝓤 H A W .typed answer _ gv .0)) $
           whole ! TEntry.the-row 192 (LL.vals TEntry.the-type TEntry′.the-laws) (LL.tells TEntry.the-type TEntry′.the-laws) zs₀ l₃ 0 (el ∙ long gts) (λ gz. assigns ! (of-opd ! (load ! (from ! (stop !)) (look ! 0 refl))) (from ! (stop !)) (init ! 1 refl (array-lawful 𝓤 H A W TEntry.the-row (LL.lawful TEntry.the-type TEntry′.the-laws 𝓤 H A W) 192 .typed zs₀ _ gz .0)) $
           rewrite ! 1 (λ (v : Val). ‵ (fat fullShare (tyArray TEntry′.mir 192) l₇ 0 v)) (same zs₀) refl $
@@ -151,14 +151,14 @@ module _ {M : Type 1} (𝓤 : URA M) (H : Heap 𝓤) (A : Atoms 𝓤) (W : Given
         pass1 ! (init ! 12 refl (array-lawful 𝓤 H A W TEntry.the-row (LL.lawful TEntry.the-type TEntry′.the-laws 𝓤 H A W) 192 .typed ts _ gts .0)) $ pass1 ! (init ! 10 refl (LL.lawful TLimits.the-type TLimits′.the-laws 𝓤 H A W .typed limits _ glimits .0)) $ pass0 ! $ keep ! (0 ∷ 1 ∷ 2 ∷ 3 ∷ 4 ∷ 5 ∷ 6 ∷ 7 ∷ 8 ∷ 9 ∷ 10 ∷ 11 ∷ 12 ∷ 13 ∷ 14 ∷ 15 ∷ []) $ body l₀ l₁ l₂ l₃ l₄ l₅ l₆ l₇))))))))
 
 module _ {M : Type 1} (𝓤 : URA M) (H : Heap 𝓤) (A : Atoms 𝓤) (W : Given 𝓤 H A) (mem : Memory → SProp 𝓤) (run : Routine → Fun 𝓤) (𝓣 : Tables 𝓤 H) where
-  f-walks : Triple 𝓤 (𝓣 .C #stream) (Open 𝓤 H A mem run) → Walks 𝓤 H A f.ended stayed (WpFn 𝓤 H (𝓣 .C) (𝓣 .Λ) code.function) (f.clauses 𝓤 H A mem run)
-  f-walks known-stream = walked 𝓤 H A f.ended stayed (f.clauses 𝓤 H A mem run) (WpFn 𝓤 H (𝓣 .C) (𝓣 .Λ) code.function) (λ κs. (array-vals (LL.vals TEntry.the-type TEntry′.the-laws), (LL.vals TLimits.the-type TLimits′.the-laws, tt))) (λ κs. (array-tells TEntry.the-row (LL.vals TEntry.the-type TEntry′.the-laws) (LL.tells TEntry.the-type TEntry′.the-laws) 192, (LL.tells TLimits.the-type TLimits′.the-laws, tt)))
-      (λ κs qs bounds a g are. via 𝓤 _ (fst∗ 𝓤 _ (emp 𝓤)) (walk 𝓤 H A W mem run (a .0) (a .1 .0) (are .0) (are .1 .0) 𝓣 known-stream))
+  f-walks : Triple 𝓤 (𝓣 .C #open) (Open 𝓤 H A mem run) → Walks 𝓤 H A f.ended stayed (WpFn 𝓤 H (𝓣 .C) (𝓣 .Λ) code.function) (f.clauses 𝓤 H A mem run)
+  f-walks known-open = walked 𝓤 H A f.ended stayed (f.clauses 𝓤 H A mem run) (WpFn 𝓤 H (𝓣 .C) (𝓣 .Λ) code.function) (λ κs. (array-vals (LL.vals TEntry.the-type TEntry′.the-laws), (LL.vals TLimits.the-type TLimits′.the-laws, tt))) (λ κs. (array-tells TEntry.the-row (LL.vals TEntry.the-type TEntry′.the-laws) (LL.tells TEntry.the-type TEntry′.the-laws) 192, (LL.tells TLimits.the-type TLimits′.the-laws, tt)))
+      (λ κs qs bounds a g are. via 𝓤 _ (fst∗ 𝓤 _ (emp 𝓤)) (walk 𝓤 H A W mem run (a .0) (a .1 .0) (are .0) (are .1 .0) 𝓣 known-open))
 
-  f-meets : Triple 𝓤 (𝓣 .C #stream) (Open 𝓤 H A mem run) → Meets 𝓤 H A f.signature (WpFn 𝓤 H (𝓣 .C) (𝓣 .Λ) code.function) (f.spec 𝓤 H A mem run)
-  f-meets known-stream =
+  f-meets : Triple 𝓤 (𝓣 .C #open) (Open 𝓤 H A mem run) → Meets 𝓤 H A f.signature (WpFn 𝓤 H (𝓣 .C) (𝓣 .Λ) code.function) (f.spec 𝓤 H A mem run)
+  f-meets known-open =
       walk-meets 𝓤 H A f.ended stayed W (goes-none 𝓤 H A W 0 (λ _. Array TEntry.the-row 192) yes (λ κs x f. refl), (goes-none 𝓤 H A W 0 (λ _. TLimits.the-row) yes (λ κs x f. refl), tt)) (f.clauses 𝓤 H A mem run)
-      (WpFn 𝓤 H (𝓣 .C) (𝓣 .Λ) code.function) (WpFn-mono 𝓤 H (W .laws) 𝓣 code.function) (f-walks known-stream)
+      (WpFn 𝓤 H (𝓣 .C) (𝓣 .Λ) code.function) (WpFn-mono 𝓤 H (W .laws) 𝓣 code.function) (f-walks known-open)
 
 pub open-spec : {M : Type 1} → stated.statement M
 unfolding code.routine tablesOf
@@ -166,4 +166,4 @@ open-spec 𝓤 H 𝓜 𝓖 𝓡 =
     entered 𝓤 H (tripleOf 𝓤 H (𝓖 .A) f.signature (f.spec 𝓤 H (𝓖 .A) (𝓜 .mem) (𝓡 .run)))
     (tables 𝓤 H 𝓜 𝓡 code.env .C) (tables 𝓤 H 𝓜 𝓡 code.env .Λ) #f code.function (code.unfolded 𝓤 H 𝓜 𝓡)
     (f-meets 𝓤 H (𝓖 .A) (givenOf 𝓤 H 𝓜 𝓖) (𝓜 .mem) (𝓡 .run) (tablesOf 𝓤 H 𝓜 (tables 𝓤 H 𝓜 𝓡 code.env))
-    (cited 𝓤 H (Open 𝓤 H (𝓖 .A) (𝓜 .mem) (𝓡 .run)) 𝓜 𝓡 code.env #stream stream-def.routine code.calls-local·open (stream-thm.met 𝓤 H 𝓜 𝓖 𝓡)))
+    (cited 𝓤 H (Open 𝓤 H (𝓖 .A) (𝓜 .mem) (𝓡 .run)) 𝓜 𝓡 code.env #open open-def.routine code.calls-local·open (open-thm.met 𝓤 H 𝓜 𝓖 𝓡)))

@@ -40,7 +40,7 @@ use denote.Triple.Statement.{Triple, Contract}
 use denote.Triple.Table.{entered, cited}
 use denote.Triple.Walked.{says, Stays, stay-slice, stay-none-slice, stay-none, walkOf, goes-slice, goes-none-slice, goes-none, Walks, ends-at, walked, walk-meets}
 use denote.Exit.{yes}
-use Rattle.limits.specs.Fits as whole
+use Rattle.limits.specs.Fits as limits
 use Rattle.packets.specs.Begin.{beginOf}
 use Rattle.packets.specs.Finish.{finishOf}
 use Rattle.tables.proofs.Leave.{leaves}
@@ -100,8 +100,8 @@ module _ {M : Type 1} (𝓤 : URA M) (H : Heap 𝓤) (A : Atoms 𝓤) (mem : Mem
   abbrev Begin : Contract 𝓤
   Begin = tripleOf 𝓤 H A begin-fn.signature (begin-fn.spec 𝓤 H A mem run)
 
-  abbrev Whole : Contract 𝓤
-  Whole = tripleOf 𝓤 H A fits-fn.signature (fits-fn.spec 𝓤 H A mem run)
+  abbrev Fits : Contract 𝓤
+  Fits = tripleOf 𝓤 H A fits-fn.signature (fits-fn.spec 𝓤 H A mem run)
 
   abbrev Finish : Contract 𝓤
   Finish = tripleOf 𝓤 H A finish-fn.signature (finish-fn.spec 𝓤 H A mem run)
@@ -134,7 +134,7 @@ module _ {M : Type 1} (𝓤 : URA M) (H : Heap 𝓤) (A : Atoms 𝓤) (W : Given
       qed W (Had zs) ∵ suffices ! _ (ends-at 𝓤 H A f.ended stayed (f.clauses 𝓤 H A mem run) W bound (LL.val TTook.the-type TTook′.the-laws r) r (tt, (tt, (zs, (tt, (tt, tt))))) (tt, (tt, (el, (tt, (tt, tt)))))) $ says ! said $ nothing ! $ move ! (4 ∷ 0 ∷ []) $ join ! $ move ! (3 ∷ 0 ∷ []) $ join ! $ frame ! $ fjoin ! $ pureI ! (at-slice TEntry.the-row (record { ptr = (b, o); name = γ; now = zs }) (at .1 .1 .0)) (tt, (tt, tt)) (ap (λ (m : ℕ). sliceVal (b, o) m ∷ []) (sym el), subst (Room TEntry.the-row) (sym el) gn) $ fjoin ! $ nothing ! $ move ! (2 ∷ 0 ∷ []) $ fjoin ! $ owned ! u8 (Is u8) (uint-makes 𝓤 H A W w8) byte _ (refl, gbyte) $ fjoin ! $ move ! (1 ∷ 0 ∷ []) $ fjoin ! $ owned ! TRecords.the-row (Is TRecords.the-row) (LL.makes TRecords.the-type TRecords′.the-plain 𝓤 H A) rs _ grs $ fjoin ! $ owned ! TConn.the-row (Is TConn.the-row) (LL.makes TConn.the-type TConn′.the-plain 𝓤 H A) c _ gc $ fjoin ! $ owned ! TTook.the-row (Is TTook.the-row) (LL.makes TTook.the-type TTook′.the-plain 𝓤 H A) r _ gr $ move ! (1 ∷ 0 ∷ []) $ done !
 
   abbrev ok : Bool
-  ok = whole.fits c ys
+  ok = limits.fits c ys
 
   abbrev g₀ : Begun
   g₀ = beginOf c rs ok byte bs
@@ -152,7 +152,7 @@ module _ {M : Type 1} (𝓤 : URA M) (H : Heap 𝓤) (A : Atoms 𝓤) (W : Given
   unfolding tookOf tookTable
   told = (refl, refl)
 
-  module _ (𝓣 : Tables 𝓤 H) (known-fits : Triple 𝓤 (𝓣 .C #fits) (Whole 𝓤 H A mem run)) (known-begin : Triple 𝓤 (𝓣 .C #begin) (Begin 𝓤 H A mem run)) (known-walk : Triple 𝓤 (𝓣 .C #walk) (Walk 𝓤 H A mem run)) (known-finish : Triple 𝓤 (𝓣 .C #finish) (Finish 𝓤 H A mem run)) where
+  module _ (𝓣 : Tables 𝓤 H) (known-fits : Triple 𝓤 (𝓣 .C #fits) (Fits 𝓤 H A mem run)) (known-begin : Triple 𝓤 (𝓣 .C #begin) (Begin 𝓤 H A mem run)) (known-walk : Triple 𝓤 (𝓣 .C #walk) (Walk 𝓤 H A mem run)) (known-finish : Triple 𝓤 (𝓣 .C #finish) (Finish 𝓤 H A mem run)) where
     abbrev C : Calls 𝓤 H
     C = 𝓣 .C
 
@@ -170,7 +170,7 @@ module _ {M : Type 1} (𝓤 : URA M) (H : Heap 𝓤) (A : Atoms 𝓤) (W : Given
       body =
           assigns ! (addr ! (from ! (fld ! refl (hop ! (look-in ! 24 (sub ! 0 refl (whole !))) (stop !))))) (from ! (stop !)) (init ! 12 refl (tt, tt)) $
           assigns ! (agg ! (and-then ! (load ! (from ! (stop !)) (look ! 12 refl)) (and-then ! (load ! (from ! (fld ! refl (stop !))) (look-in ! 24 (sub ! 1 refl (whole !)))) (no-more !)))) (from ! (stop !)) (init ! 10 refl (tt, (tt, (record { fits = gn .0 }, tt)))) $
-          lends-fn ! fm fits-fn.ended (fits-fn.clauses 𝓤 H A mem run) known-fits TEntry.the-row fullShare ys b o gn (named 0) (λ ν γ. (((ν ∷ [], tt), (fullShare, tt), tt, (c, (ref TEntry.the-row ys b o γ, tt)), (LL.val TConn.the-type TConn′.the-laws c ∷ [], (vals TEntry.the-row ys b o, tt))), tt)) (false ∷ true ∷ []) (λ ν γ. (refl, refl)) (λ ν γ. (LL.makes TConn.the-type TConn′.the-plain 𝓤 H A c _ gc, tt)) (λ ν γ. (id⊢ 𝓤 _)) (λ ν γ. whole.fits c ys) (λ ν γ. bool-vals) (λ ν γ. bool-tells) (vbool (whole.fits c ys)) (Is bool (whole.fits c ys) (vbool (whole.fits c ys) ∷ [])) (λ ν γ v g. g) (λ ν γ r ws. id⊢ 𝓤 _)
+          lends-fn ! fm fits-fn.ended (fits-fn.clauses 𝓤 H A mem run) known-fits TEntry.the-row fullShare ys b o gn (named 0) (λ ν γ. (((ν ∷ [], tt), (fullShare, tt), tt, (c, (ref TEntry.the-row ys b o γ, tt)), (LL.val TConn.the-type TConn′.the-laws c ∷ [], (vals TEntry.the-row ys b o, tt))), tt)) (false ∷ true ∷ []) (λ ν γ. (refl, refl)) (λ ν γ. (LL.makes TConn.the-type TConn′.the-plain 𝓤 H A c _ gc, tt)) (λ ν γ. (id⊢ 𝓤 _)) (λ ν γ. limits.fits c ys) (λ ν γ. bool-vals) (λ ν γ. bool-tells) (vbool (limits.fits c ys)) (Is bool (limits.fits c ys) (vbool (limits.fits c ys) ∷ [])) (λ ν γ v g. g) (λ ν γ r ws. id⊢ 𝓤 _)
           (λ ν γ. (and-then ! (load ! (from ! (stop !)) (look ! 29 refl)) (and-then ! (load ! (from ! (stop !)) (look ! 11 refl)) (no-more !)))) (λ gw. land ! (from ! (stop !)) (init ! 14 refl (tt, tt)) $
           move ! (5 ∷ []) $
           use1 W (‵ OwnB ⊛ ‵ OwnB) (shr-slice-copy 𝓤 H A W (named 1) κ₂ u8 .twice (x .1 .1 .1 .1 .0) (at .1 .1 .1 .1 .0)) $
@@ -204,11 +204,11 @@ module _ {M : Type 1} (𝓤 : URA M) (H : Heap 𝓤) (A : Atoms 𝓤) (W : Given
         pass1 ! (init ! 22 refl (LL.lawful TConn.the-type TConn′.the-laws 𝓤 H A W .typed c _ gc .0)) $ pass1 ! (init ! 20 refl (LL.lawful TRecords.the-type TRecords′.the-laws 𝓤 H A W .typed rs _ grs .0)) $ pass1 ! (init ! 18 refl (tt, (tt, (record { fits = gn .0 }, tt)))) $ pass1 ! (init ! 16 refl (tt, record { fits = gbyte })) $ pass1 ! (init ! 14 refl (tt, (tt, (record { fits = gb .0 }, tt)))) $ pass0 ! $ move ! (27 ∷ []) $ fsplit ! $ drop ! $ fsplit ! $ drop ! $ fsplit ! $ fsplit ! $ drop ! $ fsplit ! $ move ! (2 ∷ []) $ fsplit ! $ drop ! $ fsplit ! $ move ! (30 ∷ []) $ split ! $ move ! (1 ∷ []) $ split ! $ move ! (5 ∷ 6 ∷ 2 ∷ []) $ opens-slice ! tt TEntry.the-row ys b o $ keep ! (0 ∷ 1 ∷ 2 ∷ 3 ∷ 4 ∷ 6 ∷ 8 ∷ 9 ∷ 10 ∷ 11 ∷ 12 ∷ 13 ∷ 14 ∷ 15 ∷ 16 ∷ 17 ∷ 18 ∷ 19 ∷ 20 ∷ 21 ∷ 22 ∷ 23 ∷ 24 ∷ 25 ∷ 26 ∷ 27 ∷ 28 ∷ 29 ∷ 30 ∷ 31 ∷ 32 ∷ 33 ∷ []) $ body l₀ l₁ l₂ l₃ l₄ l₅ l₆ l₇ l₈ l₉ l₁₀ l₁₁ l₁₂)))))))))))))
 
 module _ {M : Type 1} (𝓤 : URA M) (H : Heap 𝓤) (A : Atoms 𝓤) (W : Given 𝓤 H A) (mem : Memory → SProp 𝓤) (run : Routine → Fun 𝓤) (𝓣 : Tables 𝓤 H) where
-  f-walks : Triple 𝓤 (𝓣 .C #fits) (Whole 𝓤 H A mem run) → Triple 𝓤 (𝓣 .C #begin) (Begin 𝓤 H A mem run) → Triple 𝓤 (𝓣 .C #walk) (Walk 𝓤 H A mem run) → Triple 𝓤 (𝓣 .C #finish) (Finish 𝓤 H A mem run) → Walks 𝓤 H A f.ended stayed (WpFn 𝓤 H (𝓣 .C) (𝓣 .Λ) code.function) (f.clauses 𝓤 H A mem run)
+  f-walks : Triple 𝓤 (𝓣 .C #fits) (Fits 𝓤 H A mem run) → Triple 𝓤 (𝓣 .C #begin) (Begin 𝓤 H A mem run) → Triple 𝓤 (𝓣 .C #walk) (Walk 𝓤 H A mem run) → Triple 𝓤 (𝓣 .C #finish) (Finish 𝓤 H A mem run) → Walks 𝓤 H A f.ended stayed (WpFn 𝓤 H (𝓣 .C) (𝓣 .Λ) code.function) (f.clauses 𝓤 H A mem run)
   f-walks known-fits known-begin known-walk known-finish = walked 𝓤 H A f.ended stayed (f.clauses 𝓤 H A mem run) (WpFn 𝓤 H (𝓣 .C) (𝓣 .Λ) code.function) (λ κs. (LL.vals TConn.the-type TConn′.the-laws, (LL.vals TRecords.the-type TRecords′.the-laws, (slice-vals, (uint-vals w8, (slice-vals, tt)))))) (λ κs. (LL.tells TConn.the-type TConn′.the-laws, (LL.tells TRecords.the-type TRecords′.the-laws, (mut-slice-tells (named 0) (κs .0) TEntry.the-row, (uint-tells w8, (shr-slice-tells (named 1) (κs .1 .0) u8, tt))))))
       (λ κs qs bounds a g are. via 𝓤 _ (fst∗ 𝓤 _ (emp 𝓤)) (walk 𝓤 H A W mem run (κs .0) (κs .1 .0) (qs .0) (qs .1 .0) (a .0) (a .1 .0) (a .1 .1 .0 .ptr .0) (a .1 .1 .0 .ptr .1) (a .1 .1 .0 .name) (a .1 .1 .0 .now) (a .1 .1 .1 .0) (a .1 .1 .1 .1 .0 .ptr .0) (a .1 .1 .1 .1 .0 .ptr .1) (a .1 .1 .1 .1 .0 .name) (a .1 .1 .1 .1 .0 .now) (are .0) (are .1 .0) (are .1 .1 .0 .0 .1) (are .1 .1 .1 .0 .1) (are .1 .1 .1 .1 .0 .0 .1) 𝓣 known-fits known-begin known-walk known-finish))
 
-  f-meets : Triple 𝓤 (𝓣 .C #fits) (Whole 𝓤 H A mem run) → Triple 𝓤 (𝓣 .C #begin) (Begin 𝓤 H A mem run) → Triple 𝓤 (𝓣 .C #walk) (Walk 𝓤 H A mem run) → Triple 𝓤 (𝓣 .C #finish) (Finish 𝓤 H A mem run) → Meets 𝓤 H A f.signature (WpFn 𝓤 H (𝓣 .C) (𝓣 .Λ) code.function) (f.spec 𝓤 H A mem run)
+  f-meets : Triple 𝓤 (𝓣 .C #fits) (Fits 𝓤 H A mem run) → Triple 𝓤 (𝓣 .C #begin) (Begin 𝓤 H A mem run) → Triple 𝓤 (𝓣 .C #walk) (Walk 𝓤 H A mem run) → Triple 𝓤 (𝓣 .C #finish) (Finish 𝓤 H A mem run) → Meets 𝓤 H A f.signature (WpFn 𝓤 H (𝓣 .C) (𝓣 .Λ) code.function) (f.spec 𝓤 H A mem run)
   f-meets known-fits known-begin known-walk known-finish =
       walk-meets 𝓤 H A f.ended stayed W (goes-none 𝓤 H A W 2 (λ _. TConn.the-row) yes (λ κs x f. refl), (goes-none 𝓤 H A W 2 (λ _. TRecords.the-row) yes (λ κs x f. refl), (goes-slice 𝓤 H A W 2 0 tt (plain (λ _. TEntry.the-row)), (goes-none 𝓤 H A W 2 (λ _. u8) yes (λ κs x f. refl), (goes-none-slice 𝓤 H A W 2 (1 ∷ []) tt (plain (λ _. u8)) yes, tt))))) (f.clauses 𝓤 H A mem run)
       (WpFn 𝓤 H (𝓣 .C) (𝓣 .Λ) code.function) (WpFn-mono 𝓤 H (W .laws) 𝓣 code.function) (f-walks known-fits known-begin known-walk known-finish)
@@ -219,7 +219,7 @@ take-packet-spec 𝓤 H 𝓜 𝓖 𝓡 =
     entered 𝓤 H (tripleOf 𝓤 H (𝓖 .A) f.signature (f.spec 𝓤 H (𝓖 .A) (𝓜 .mem) (𝓡 .run)))
     (tables 𝓤 H 𝓜 𝓡 code.env .C) (tables 𝓤 H 𝓜 𝓡 code.env .Λ) #f code.function (code.unfolded 𝓤 H 𝓜 𝓡)
     (f-meets 𝓤 H (𝓖 .A) (givenOf 𝓤 H 𝓜 𝓖) (𝓜 .mem) (𝓡 .run) (tablesOf 𝓤 H 𝓜 (tables 𝓤 H 𝓜 𝓡 code.env))
-    (cited 𝓤 H (Whole 𝓤 H (𝓖 .A) (𝓜 .mem) (𝓡 .run)) 𝓜 𝓡 code.env #fits fits-def.routine code.calls-tables·fits (fits-thm.met 𝓤 H 𝓜 𝓖 𝓡))
+    (cited 𝓤 H (Fits 𝓤 H (𝓖 .A) (𝓜 .mem) (𝓡 .run)) 𝓜 𝓡 code.env #fits fits-def.routine code.calls-tables·fits (fits-thm.met 𝓤 H 𝓜 𝓖 𝓡))
     (cited 𝓤 H (Begin 𝓤 H (𝓖 .A) (𝓜 .mem) (𝓡 .run)) 𝓜 𝓡 code.env #begin begin-def.routine code.calls-packets·checks·begin (begin-thm.met 𝓤 H 𝓜 𝓖 𝓡))
     (cited 𝓤 H (Walk 𝓤 H (𝓖 .A) (𝓜 .mem) (𝓡 .run)) 𝓜 𝓡 code.env #walk walk-def.routine code.calls-walks·walk (walk-thm.met 𝓤 H 𝓜 𝓖 𝓡))
     (cited 𝓤 H (Finish 𝓤 H (𝓖 .A) (𝓜 .mem) (𝓡 .run)) 𝓜 𝓡 code.env #finish finish-def.routine code.calls-packets·checks·finish (finish-thm.met 𝓤 H 𝓜 𝓖 𝓡)))

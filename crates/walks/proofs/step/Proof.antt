@@ -87,11 +87,11 @@ abbrev stayed : Stays (f.ended .signature .params) (f.ended .kept)
 stayed = (stay-none (λ _. TConn.the-row) yes, (stay-slice (0 ∷ []) tt (plain (λ _. TEntry.the-row)), (stay-none-slice (1 ∷ []) tt (plain (λ _. u8)) yes, (stay-none (λ _. usize) yes, (stay-none (λ _. TKind.the-row) yes, tt)))))
 
 module _ {M : Type 1} (𝓤 : URA M) (H : Heap 𝓤) (A : Atoms 𝓤) (mem : Memory → SProp 𝓤) (run : Routine → Fun 𝓤) where
-  abbrev Ask : Contract 𝓤
-  Ask = tripleOf 𝓤 H A request-fn.signature (request-fn.spec 𝓤 H A mem run)
+  abbrev Requests : Contract 𝓤
+  Requests = tripleOf 𝓤 H A request-fn.signature (request-fn.spec 𝓤 H A mem run)
 
-  abbrev Turn : Contract 𝓤
-  Turn = tripleOf 𝓤 H A decide-fn.signature (decide-fn.spec 𝓤 H A mem run)
+  abbrev Decides : Contract 𝓤
+  Decides = tripleOf 𝓤 H A decide-fn.signature (decide-fn.spec 𝓤 H A mem run)
 
 module _ {M : Type 1} (𝓤 : URA M) (H : Heap 𝓤) (A : Atoms 𝓤) (W : Given 𝓤 H A) (mem : Memory → SProp 𝓤) (run : Routine → Fun 𝓤) (κ κ₂ : Lft) (q q₂ : Share) (c : Conn) (b o : ℕ) (γ : GName) (ys : List Entry) (b₂ o₂ : ℕ) (γ₂ : GName) (bs : List ℕ) (p : ℕ) (kind : Kind)
     (gc : Is TConn.the-row c (LL.val TConn.the-type TConn′.the-laws c ∷ [])) (gn : Room TEntry.the-row (length ys)) (gb : Room u8 (length bs)) (gp : p < 2 ^ 64) (gkind : Is TKind.the-row kind (EL.val TKind.the-type TKind′.the-laws kind ∷ [])) where
@@ -147,7 +147,7 @@ module _ {M : Type 1} (𝓤 : URA M) (H : Heap 𝓤) (A : Atoms 𝓤) (W : Given
   unfolding decidedAt
   told-alone l = (ap (λ (e : Entry). decidedOf c e a₀ .stepped) (sym (List·getD-eq-default ys (fresh 0) l)), sym (set-out ys i₀ _ l))
 
-  module _ (𝓣 : Tables 𝓤 H) (known-request : Triple 𝓤 (𝓣 .C #request) (Ask 𝓤 H A mem run)) (known-decide : Triple 𝓤 (𝓣 .C #decide) (Turn 𝓤 H A mem run)) where
+  module _ (𝓣 : Tables 𝓤 H) (known-request : Triple 𝓤 (𝓣 .C #request) (Requests 𝓤 H A mem run)) (known-decide : Triple 𝓤 (𝓣 .C #decide) (Decides 𝓤 H A mem run)) where
     abbrev C : Calls 𝓤 H
     C = 𝓣 .C
 
@@ -234,11 +234,11 @@ module _ {M : Type 1} (𝓤 : URA M) (H : Heap 𝓤) (A : Atoms 𝓤) (W : Given
         pass1 ! (init ! 28 refl (LL.lawful TConn.the-type TConn′.the-laws 𝓤 H A W .typed c _ gc .0)) $ pass1 ! (init ! 26 refl (tt, (tt, (record { fits = gn .0 }, tt)))) $ pass1 ! (init ! 24 refl (tt, (tt, (record { fits = gb .0 }, tt)))) $ pass1 ! (init ! 22 refl (tt, record { fits = gp })) $ pass1 ! (init ! 20 refl (EL.lawful TKind.the-type TKind′.the-laws 𝓤 H A W tt .typed kind _ gkind .0)) $ pass0 ! $ move ! (33 ∷ []) $ fsplit ! $ drop ! $ fsplit ! $ fsplit ! $ drop ! $ fsplit ! $ move ! (2 ∷ []) $ fsplit ! $ move ! (36 ∷ []) $ split ! $ move ! (1 ∷ []) $ split ! $ move ! (5 ∷ 6 ∷ 2 ∷ []) $ opens-slice ! tt TEntry.the-row ys b o $ keep ! (0 ∷ 1 ∷ 2 ∷ 3 ∷ 4 ∷ 6 ∷ 8 ∷ 9 ∷ 10 ∷ 11 ∷ 12 ∷ 13 ∷ 14 ∷ 15 ∷ 16 ∷ 17 ∷ 18 ∷ 19 ∷ 20 ∷ 21 ∷ 22 ∷ 23 ∷ 24 ∷ 25 ∷ 26 ∷ 27 ∷ 28 ∷ 29 ∷ 30 ∷ 31 ∷ 32 ∷ 33 ∷ 34 ∷ 35 ∷ 36 ∷ 37 ∷ 38 ∷ 39 ∷ []) $ body l₀ l₁ l₂ l₃ l₄ l₅ l₆ l₇ l₈ l₉ l₁₀ l₁₁ l₁₂ l₁₃ l₁₄ l₁₅))))))))))))))))
 
 module _ {M : Type 1} (𝓤 : URA M) (H : Heap 𝓤) (A : Atoms 𝓤) (W : Given 𝓤 H A) (mem : Memory → SProp 𝓤) (run : Routine → Fun 𝓤) (𝓣 : Tables 𝓤 H) where
-  f-walks : Triple 𝓤 (𝓣 .C #request) (Ask 𝓤 H A mem run) → Triple 𝓤 (𝓣 .C #decide) (Turn 𝓤 H A mem run) → Walks 𝓤 H A f.ended stayed (WpFn 𝓤 H (𝓣 .C) (𝓣 .Λ) code.function) (f.clauses 𝓤 H A mem run)
+  f-walks : Triple 𝓤 (𝓣 .C #request) (Requests 𝓤 H A mem run) → Triple 𝓤 (𝓣 .C #decide) (Decides 𝓤 H A mem run) → Walks 𝓤 H A f.ended stayed (WpFn 𝓤 H (𝓣 .C) (𝓣 .Λ) code.function) (f.clauses 𝓤 H A mem run)
   f-walks known-request known-decide = walked 𝓤 H A f.ended stayed (f.clauses 𝓤 H A mem run) (WpFn 𝓤 H (𝓣 .C) (𝓣 .Λ) code.function) (λ κs. (LL.vals TConn.the-type TConn′.the-laws, (slice-vals, (slice-vals, (uint-vals w64, (EL.vals TKind.the-type TKind′.the-laws, tt)))))) (λ κs. (LL.tells TConn.the-type TConn′.the-laws, (mut-slice-tells (named 0) (κs .0) TEntry.the-row, (shr-slice-tells (named 1) (κs .1 .0) u8, (uint-tells w64, (EL.tells TKind.the-type TKind′.the-laws, tt))))))
       (λ κs qs bounds a g are. via 𝓤 _ (fst∗ 𝓤 _ (emp 𝓤)) (walk 𝓤 H A W mem run (κs .0) (κs .1 .0) (qs .0) (qs .1 .0) (a .0) (a .1 .0 .ptr .0) (a .1 .0 .ptr .1) (a .1 .0 .name) (a .1 .0 .now) (a .1 .1 .0 .ptr .0) (a .1 .1 .0 .ptr .1) (a .1 .1 .0 .name) (a .1 .1 .0 .now) (a .1 .1 .1 .0) (a .1 .1 .1 .1 .0) (are .0) (are .1 .0 .0 .1) (are .1 .1 .0 .0 .1) (are .1 .1 .1 .0 .1) (are .1 .1 .1 .1 .0) 𝓣 known-request known-decide))
 
-  f-meets : Triple 𝓤 (𝓣 .C #request) (Ask 𝓤 H A mem run) → Triple 𝓤 (𝓣 .C #decide) (Turn 𝓤 H A mem run) → Meets 𝓤 H A f.signature (WpFn 𝓤 H (𝓣 .C) (𝓣 .Λ) code.function) (f.spec 𝓤 H A mem run)
+  f-meets : Triple 𝓤 (𝓣 .C #request) (Requests 𝓤 H A mem run) → Triple 𝓤 (𝓣 .C #decide) (Decides 𝓤 H A mem run) → Meets 𝓤 H A f.signature (WpFn 𝓤 H (𝓣 .C) (𝓣 .Λ) code.function) (f.spec 𝓤 H A mem run)
   f-meets known-request known-decide =
       walk-meets 𝓤 H A f.ended stayed W (goes-none 𝓤 H A W 2 (λ _. TConn.the-row) yes (λ κs x f. refl), (goes-slice 𝓤 H A W 2 0 tt (plain (λ _. TEntry.the-row)), (goes-none-slice 𝓤 H A W 2 (1 ∷ []) tt (plain (λ _. u8)) yes, (goes-none 𝓤 H A W 2 (λ _. usize) yes (λ κs x f. refl), (goes-none 𝓤 H A W 2 (λ _. TKind.the-row) yes (λ κs x f. refl), tt))))) (f.clauses 𝓤 H A mem run)
       (WpFn 𝓤 H (𝓣 .C) (𝓣 .Λ) code.function) (WpFn-mono 𝓤 H (W .laws) 𝓣 code.function) (f-walks known-request known-decide)
@@ -249,5 +249,5 @@ step-spec 𝓤 H 𝓜 𝓖 𝓡 =
     entered 𝓤 H (tripleOf 𝓤 H (𝓖 .A) f.signature (f.spec 𝓤 H (𝓖 .A) (𝓜 .mem) (𝓡 .run)))
     (tables 𝓤 H 𝓜 𝓡 code.env .C) (tables 𝓤 H 𝓜 𝓡 code.env .Λ) #f code.function (code.unfolded 𝓤 H 𝓜 𝓡)
     (f-meets 𝓤 H (𝓖 .A) (givenOf 𝓤 H 𝓜 𝓖) (𝓜 .mem) (𝓡 .run) (tablesOf 𝓤 H 𝓜 (tables 𝓤 H 𝓜 𝓡 code.env))
-    (cited 𝓤 H (Ask 𝓤 H (𝓖 .A) (𝓜 .mem) (𝓡 .run)) 𝓜 𝓡 code.env #request request-def.routine code.calls-steps·frame·request (request-thm.met 𝓤 H 𝓜 𝓖 𝓡))
-    (cited 𝓤 H (Turn 𝓤 H (𝓖 .A) (𝓜 .mem) (𝓡 .run)) 𝓜 𝓡 code.env #decide decide-def.routine code.calls-steps·frame·decide (decide-thm.met 𝓤 H 𝓜 𝓖 𝓡)))
+    (cited 𝓤 H (Requests 𝓤 H (𝓖 .A) (𝓜 .mem) (𝓡 .run)) 𝓜 𝓡 code.env #request request-def.routine code.calls-steps·frame·request (request-thm.met 𝓤 H 𝓜 𝓖 𝓡))
+    (cited 𝓤 H (Decides 𝓤 H (𝓖 .A) (𝓜 .mem) (𝓡 .run)) 𝓜 𝓡 code.env #decide decide-def.routine code.calls-steps·frame·decide (decide-thm.met 𝓤 H 𝓜 𝓖 𝓡)))
