@@ -48,14 +48,14 @@ use Rattle.steps.specs.declared.Request.{Request}
 use Rattle.packets.specs.declared.Begun.{Begun}
 use Rattle.spaces.specs.declared.Records.{Records}
 use Rattle.steps.specs.declared.Stopped.{Stopped}
-use Rattle.packets.specs.declared.Took.{Took}
+use Rattle.endings.specs.declared.Took.{Took}
 use Rattle.steps.specs.declared.TookFrame.{TookFrame}
 use Rattle.steps.specs.declared.Gate.{Gate}
 use Rattle.steps.specs.declared.Decided.{Decided}
 use Rattle.spaces.specs.Spaces.{recordsFit, recordedOf}
 use Rattle.steps.specs.Step.{requestOf, requestAt, decidedOf}
 use Rattle.packets.specs.Begin as begin
-use Rattle.packets.specs.Finish.{finishOf}
+use Rattle.endings.specs.Finish.{finishOf}
 use Rattle.steps.specs.Gate.{gateOf}
 use Rattle.walks.specs.Walk.{decidedAt, steppedAt, Walked, walkFrom}
 use Rattle.receive.specs.Taking.{gateAt, tookFrameOf, begunOf, tookOf}

@@ -51,7 +51,7 @@ use Rattle.spaces.specs.declared.Records.{Records}
 use Rattle.steps.specs.declared.Stopped.{Stopped}
 use Rattle.spaces.specs.Spaces.{recordedOf}
 use Rattle.packets.specs.Begin.{refusedOf, closesOf}
-use Rattle.packets.specs.Finish.{tookAs, finishOf}
+use Rattle.endings.specs.Finish.{tookAs, finishOf}
 use Rattle.steps.specs.declared.Decided.{Decided}
 use Rattle.steps.specs.Gate.{gateOf}
 use Rattle.opening.specs.Opening.{openingWhen, entriesOf}

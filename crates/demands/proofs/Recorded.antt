@@ -36,7 +36,7 @@ use Rattle.headers.specs.declared.Header.the-variants as Header'
 use Rattle.headers.specs.First.{headerOf, sizeIn, reservedOf}
 use Rattle.spaces.specs.Spaces.{recordOf, withRecord, recordsFit, recordedOf}
 use Rattle.packets.specs.Begin.{refusedOf, closesOf, testedOf, withRecovered, inSpaceOf, withKind, beginOf}
-use Rattle.packets.specs.Finish.{finishOf}
+use Rattle.endings.specs.Finish.{finishOf}
 use Rattle.receive.specs.Taking.{begunOf, tookOf}
 use Rattle.walks.specs.Walk.{stoppedOf}
 use Rattle.demands.specs.Recorded.{NumberRecorded}

@@ -38,11 +38,11 @@ use Rattle.steps.specs.declared.Shown.{Shown}
 use Rattle.steps.specs.declared.Shown.the-variants.{Nothing}
 use Rattle.spaces.specs.declared.Records.{Records}
 use Rattle.steps.specs.declared.Stopped.{Stopped}
-use Rattle.packets.specs.declared.Took.{Took}
+use Rattle.endings.specs.declared.Took.{Took}
 use Rattle.steps.specs.declared.TookFrame.{TookFrame}
 use Rattle.steps.specs.Step.{requestOf, requestAt, decidedOf, shownAt}
 use Rattle.packets.specs.Begin as begin
-use Rattle.packets.specs.Finish.{tookAs, finishOf}
+use Rattle.endings.specs.Finish.{tookAs, finishOf}
 use Rattle.walks.specs.Walk.{decidedAt, Walked, walkAll}
 use Rattle.local.specs.Calling.{callPlace, calledAt, calledTable}
 use Rattle.receive.specs.Taking.{gateAt, tookFrameOf, frameTable, begunOf, tookOf, tookTable}

@@ -12,6 +12,8 @@ use Rattle.opening.proofs.count.Kinds as counts
 use Rattle.opening.proofs.count.Reads as counts-reads
 use Rattle.opening.proofs.entry.Kinds as enters
 use Rattle.opening.proofs.entry.Reads as enters-reads
+use Rattle.opening.proofs.room.Kinds as room
+use Rattle.opening.proofs.room.Reads as room-reads
 
 pub opens-firm : FirmAnswer 0 opens.ps opens.r opens-reads.Asked opens-reads.Post
 opens-firm = equation
@@ -27,3 +29,6 @@ counts-firm = equation
 
 pub enters-firm : FirmAnswer 0 enters.ps enters.r enters-reads.Asked enters-reads.Post
 enters-firm = equation
+
+pub room-firm : FirmAnswer 0 room.ps room.r room-reads.Asked room-reads.Post
+room-firm = equation

@@ -2,7 +2,8 @@
 // length, and the entries as opening sets them.
 ghost use mathlib.Core.Path.{_≡_};
 ghost use Prim.Native.Nat.{_/_};
-ghost use Rattle.halves.specs.Stream.{mostStreams};
+ghost use lib.ListN.{replicate};
+ghost use Rattle.halves.specs.Stream.{mostStreams, entries};
 ghost use Rattle.entries.specs.Entry.{fresh};
 ghost use Rattle.streams.specs.Conn.{initialOf};
 ghost use Rattle.opening.specs.Opening.{openedConn, unopenedOf, openingOf, openingWhen, entriesOf};
@@ -93,4 +94,17 @@ pub fn entry(i: usize, limits: Limits) -> Entry
         end: 0,
         size: Entry::UNKNOWN,
     }
+}
+
+// Room for a table: opening does not look at what stands in it.
+pub fn room() -> [Entry; Conn::ENTRIES]
+    ensures { λ r. ⌜ r ≡ replicate entries (fresh 0) ⌝ }
+{
+    let none = Entry::UNKNOWN;
+    let e = Entry {
+        credit: 0,
+        end: 0,
+        size: none,
+    };
+    [e; Conn::ENTRIES]
 }

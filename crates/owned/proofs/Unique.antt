@@ -7,21 +7,16 @@ use ghost.Atoms.{Atoms}
 use prog.Memory.{Memory}
 use prog.Routine.{Routine}
 use prog.Wp.{Heap}
-use Rattle.answers.specs.Firm.{FirmAnswer, FirmClauses}
+use Rattle.answers.specs.Firm.{FirmClauses}
 use Rattle.answers.proofs.Firm.{equation, clauses-equation}
 use Rattle.owned.specs.declared.OwnedOpened.{OwnedOpened}
 use Rattle.owned.specs.declared.OwnedFrame.{OwnedFrame}
 use Rattle.owned.specs.declared.OwnedPacket.{OwnedPacket}
 use Rattle.owned.specs.declared.OwnedCall.{OwnedCall}
-use Rattle.owned.proofs.room.Kinds as room
-use Rattle.owned.proofs.room.Reads as room-reads
 use Rattle.owned.proofs.open as opening
 use Rattle.owned.proofs.take_frame as take-frame
 use Rattle.owned.proofs.take_packet as take-packet
 use Rattle.owned.proofs.call as calling
-
-pub room-firm : FirmAnswer 0 room.ps room.r room-reads.Asked room-reads.Post
-room-firm = equation
 
 module _ {M : Type 1} (𝓤 : URA M) (H : Heap 𝓤) (A : Atoms 𝓤) (mem : Memory → SProp 𝓤) (run : Routine → Fun 𝓤) where
   pub open-firm : FirmClauses 𝓤 opening.ended (opening.clauses 𝓤 H A mem run) (λ κs. OwnedOpened) (λ κs x s. x)

@@ -1,14 +1,11 @@
 // A stream table owned by value, for a program that has no memory to lend: each call lends it to crate receive and hands it back.
 ghost use mathlib.Core.Path.{_≡_};
-ghost use lib.ListN.{replicate};
-ghost use Rattle.halves.specs.Stream.{entries};
-ghost use Rattle.entries.specs.Entry.{fresh};
 ghost use Rattle.owned.specs.Owned.{ownedOpenedOf, ownedFrameOf, ownedPacketOf, ownedCallOf};
 use calls::Call;
+use endings::Took;
 use entries::Entry;
 use frames::Kind;
 use opening::Opened;
-use packets::Took;
 use spaces::Records;
 use steps::TookFrame;
 use streams::Called;
@@ -33,18 +30,6 @@ pub struct OwnedPacket {
 pub struct OwnedCall {
     pub called: Called,
     pub table: [Entry; Conn::ENTRIES],
-}
-
-// Room for a table: opening does not look at what stands in it.
-pub fn room() -> [Entry; Conn::ENTRIES]
-    ensures { λ r. ⌜ r ≡ replicate entries (fresh 0) ⌝ }
-{
-    let e = Entry {
-        credit: 0,
-        end: 0,
-        size: Entry::UNKNOWN,
-    };
-    [e; Conn::ENTRIES]
 }
 
 pub fn open(table: [Entry; Conn::ENTRIES], limits: Limits) -> OwnedOpened

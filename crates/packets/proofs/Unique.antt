@@ -4,11 +4,6 @@ use Rattle.answers.specs.Firm.{FirmAnswer}
 use Rattle.answers.proofs.Firm.{equation}
 use Rattle.packets.proofs.checks.begin.Kinds as begin
 use Rattle.packets.proofs.checks.begin.Reads as begin-reads
-use Rattle.packets.proofs.checks.finish.Kinds as finish
-use Rattle.packets.proofs.checks.finish.Reads as finish-reads
 
 pub begin-firm : FirmAnswer 1 begin.ps begin.r begin-reads.Asked begin-reads.Post
 begin-firm = equation
-
-pub finish-firm : FirmAnswer 0 finish.ps finish.r finish-reads.Asked finish-reads.Post
-finish-firm = equation

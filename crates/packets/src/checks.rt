@@ -1,18 +1,15 @@
-// A packet before and after its frames: the order of checks up to them, and the record of its number.
+// A packet before its frames: the order of checks up to them.
 ghost use mathlib.Core.Path.{_≡_};
 ghost use Rattle.records.specs.Parts.{joined};
 ghost use Rattle.streams.specs.Conn.{spaceOf};
 ghost use Rattle.spaces.specs.Spaces.{ofParts, recordOf};
 ghost use Rattle.packets.specs.Begin.{refusedOf, closesOf, testedOf, inSpaceOf, beginOf};
-ghost use Rattle.packets.specs.Finish.{finishOf};
 use crate::Begun;
-use crate::Took;
 use answers::Answer;
 use frames::Kind;
 use headers::Header;
 use numbers::Recovered;
 use spaces::Records;
-use steps::Stopped;
 use streams::Conn;
 use streams::Mark;
 use wire::Number;
@@ -146,37 +143,4 @@ pub fn begin(c: Conn, records: Records, fits: bool, first: u8, s: &[u8]) -> Begu
         first,
         s,
     )
-}
-
-// A packet after its frames: its number is recorded if none was refused.
-pub fn finish(begun: Begun, stopped: Stopped, records: Records) -> Took
-    ensures { λ r. ⌜ r ≡ finishOf begun stopped records ⌝ }
-{
-    let conn = stopped.conn;
-    let place = stopped.place;
-    let before = begun.answer;
-    let Answer::Accepted = before else {
-        return Took {
-            answer: before,
-            place,
-            conn,
-            records,
-        };
-    };
-    let answer = stopped.answer;
-    let Answer::Accepted = answer else {
-        return Took {
-            answer,
-            place,
-            conn,
-            records,
-        };
-    };
-    let kind = begun.kind;
-    Took {
-        answer,
-        place,
-        conn,
-        records: spaces::recorded(records, kind, begun.number),
-    }
 }

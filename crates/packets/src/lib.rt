@@ -1,9 +1,8 @@
-// A packet before and after its frames (document 01, "Taking a packet"): the order of checks up to them, and the record of its number.
+// A packet before its frames (document 01, "Taking a packet"): the order of checks up to them.
 pub mod checks;
 
 use answers::Answer;
 use frames::Kind;
-use spaces::Records;
 use streams::Conn;
 
 // A packet up to its frames: where they begin, in a packet of which kind and number; or the answer that refuses it,
@@ -14,12 +13,4 @@ pub struct Begun {
     pub kind: Kind,
     pub at: usize,
     pub number: u64,
-}
-
-// The answer of a call for a packet, the place where its walk stopped, the connection and the records.
-pub struct Took {
-    pub answer: Answer,
-    pub place: usize,
-    pub conn: Conn,
-    pub records: Records,
 }

@@ -28,7 +28,7 @@ pub fn small() -> OwnedOpened
         counts: [4, 4],
         initial: [16, 16, 16],
     };
-    owned::open(owned::room(), limits)
+    owned::open(opening::room(), limits)
 }
 
 // One row more, unless there is no room for it.

@@ -12,7 +12,7 @@ use denote.Ref.{now}
 use Rattle.answers.specs.Firm.{FirmClauses}
 use Rattle.answers.proofs.Firm.{equation, clauses-equations}
 use Rattle.entries.specs.declared.Entry.{Entry}
-use Rattle.packets.specs.declared.Took.{Took}
+use Rattle.endings.specs.declared.Took.{Took}
 use Rattle.steps.specs.declared.TookFrame.{TookFrame}
 use Rattle.receive.proofs.take_frame as take-frame
 use Rattle.receive.proofs.take_packet as take-packet

@@ -10,10 +10,10 @@ use Rattle.packets.specs.declared.Begun.{Begun}
 use Rattle.steps.specs.declared.Gate.{Gate}
 use Rattle.steps.specs.declared.Shown.the-variants.{Nothing}
 use Rattle.spaces.specs.declared.Records.{Records}
-use Rattle.packets.specs.declared.Took.{Took}
+use Rattle.endings.specs.declared.Took.{Took}
 use Rattle.steps.specs.declared.TookFrame.{TookFrame}
 use Rattle.packets.specs.Begin.{beginOf}
-use Rattle.packets.specs.Finish.{finishOf}
+use Rattle.endings.specs.Finish.{finishOf}
 use Rattle.steps.specs.Gate.{gateOf}
 use Rattle.steps.specs.Step.{shownAt}
 use Rattle.walks.specs.Walk.{steppedAt, stepTable, stoppedOf, walkTable}

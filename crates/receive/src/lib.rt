@@ -2,9 +2,9 @@
 // and nothing of it is copied but the one entry at hand. 120 comes before all else, in one pass over the table.
 ghost use mathlib.Core.Path.{_≡_};
 ghost use Rattle.receive.specs.Taking.{tookFrameOf, frameTable, tookOf, tookTable};
+use endings::Took;
 use entries::Entry;
 use frames::Kind;
-use packets::Took;
 use spaces::Records;
 use steps::Shown;
 use steps::TookFrame;
@@ -37,5 +37,5 @@ pub fn take_packet(c: Conn, records: Records, t: &mut [Entry], first: u8, s: &[u
 {
     let begun = packets::checks::begin(c, records, tables::fits(c, t), first, s);
     let stopped = walks::walk(begun.conn, t, s, begun.at, begun.kind);
-    packets::checks::finish(begun, stopped, records)
+    endings::finish(begun, stopped, records)
 }

@@ -37,7 +37,7 @@ pub fn empty() -> Session {
         opened: false,
         conn,
         records: no_records(),
-        table: owned::room(),
+        table: opening::room(),
     }
 }
 

@@ -34,7 +34,7 @@ pub fn open(
         counts: [count0, count2],
         initial: [init0, init1, init2],
     };
-    let h = owned::open(owned::room(), limits);
+    let h = owned::open(opening::room(), limits);
     let opened = h.opened;
     let answer = opened.answer;
     let a = answer.number();

@@ -8,6 +8,8 @@ use Rattle.answers.proofs.Firm.{equation, outcome-equation}
 use Rattle.wire.specs.declared.Wrote.{Wrote}
 use Rattle.text.proofs.put.bytes.Kinds as bytes
 use Rattle.text.proofs.put.bytes.Reads as bytes-reads
+use Rattle.text.proofs.put.fits.Kinds as fitting
+use Rattle.text.proofs.put.fits.Reads as fitting-reads
 use Rattle.text.proofs.decimal.write.Kinds as decimal-write
 use Rattle.text.proofs.decimal.write.Reads as decimal-write-reads
 use Rattle.text.proofs.decimal.read.Kinds as decimal-read
@@ -21,3 +23,6 @@ decimal-write-firm = outcome-equation
 
 pub decimal-read-firm : FirmAnswer 1 decimal-read.ps decimal-read.r decimal-read-reads.Asked decimal-read-reads.Post
 decimal-read-firm = equation
+
+pub fits-firm : FirmAnswer 0 fitting.ps fitting.r fitting-reads.Asked fitting-reads.Post
+fits-firm = equation

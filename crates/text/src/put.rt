@@ -7,7 +7,7 @@ use answers::Answer;
 use wire::Wrote;
 
 // Whether an output of n bytes has room for so many from a place on.
-pub(crate) fn fits(n: usize, at: usize, size: usize) -> bool
+pub fn fits(n: usize, at: usize, size: usize) -> bool
     ensures { λ r. ⌜ r ≡ leb (at + size) n ⌝ }
 {
     if n < at {

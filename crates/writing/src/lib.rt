@@ -37,15 +37,12 @@ pub fn write(frame: Frame, s: &[u8], out: &mut [u8], at: usize) -> Wrote
             answer: Answer::Unwritable,
         };
     };
-    if out.len() < at {
-        return Wrote::Refused {
-            answer: Answer::NoRoom,
-        };
-    }
-    if out.len() - at < bytes {
+    if !text::put::fits(out.len(), at, bytes) {
         return Wrote::Refused {
             answer: Answer::NoRoom,
         };
     }
     put(p, s, out, at)
 }
+// 2038523376
+// 141484743

@@ -53,9 +53,9 @@ use Rattle.spaces.proofs.Records.Laws as TRecords′
 use Rattle.owned.specs.declared.OwnedPacket.{OwnedPacket}
 use Rattle.owned.proofs.OwnedPacket as TOwnedPacket
 use Rattle.owned.proofs.OwnedPacket.Laws as TOwnedPacket′
-use Rattle.packets.specs.declared.Took.{Took}
-use Rattle.packets.proofs.Took as TTook
-use Rattle.packets.proofs.Took.Laws as TTook′
+use Rattle.endings.specs.declared.Took.{Took}
+use Rattle.endings.proofs.Took as TTook
+use Rattle.endings.proofs.Took.Laws as TTook′
 use Rattle.entries.specs.declared.Entry.{Entry}
 use Rattle.entries.proofs.Entry as TEntry
 use Rattle.entries.proofs.Entry.Laws as TEntry′

@@ -42,7 +42,7 @@ use denote.Triple.Walked.{says, Stays, stay-slice, stay-none-slice, stay-none, w
 use denote.Exit.{yes}
 use Rattle.limits.specs.Fits as limits
 use Rattle.packets.specs.Begin.{beginOf}
-use Rattle.packets.specs.Finish.{finishOf}
+use Rattle.endings.specs.Finish.{finishOf}
 use Rattle.tables.proofs.Leave.{leaves}
 use Rattle.walks.specs.Walk.{stoppedOf, walkTable}
 use Rattle.receive.specs.Taking.{tookOf, tookTable}
@@ -53,9 +53,9 @@ use Rattle.streams.proofs.Conn.Laws as TConn′
 use Rattle.spaces.specs.declared.Records.{Records}
 use Rattle.spaces.proofs.Records as TRecords
 use Rattle.spaces.proofs.Records.Laws as TRecords′
-use Rattle.packets.specs.declared.Took.{Took}
-use Rattle.packets.proofs.Took as TTook
-use Rattle.packets.proofs.Took.Laws as TTook′
+use Rattle.endings.specs.declared.Took.{Took}
+use Rattle.endings.proofs.Took as TTook
+use Rattle.endings.proofs.Took.Laws as TTook′
 use Rattle.packets.specs.declared.Begun.{Begun}
 use Rattle.packets.proofs.Begun as TBegun
 use Rattle.packets.proofs.Begun.Laws as TBegun′
@@ -78,10 +78,10 @@ use Rattle.packets.proofs.checks.begin.Met as begin-thm
 use Rattle.walks.proofs.walk.Symbol as walk-def
 use Rattle.walks.proofs.walk.Symbol.{name as #walk}
 use Rattle.walks.proofs.walk.Met as walk-thm
-use Rattle.packets.proofs.checks.finish.Symbol as finish-def
-use Rattle.packets.proofs.checks.finish.Symbol.{name as #finish}
-use Rattle.packets.proofs.checks.finish.Met as finish-thm
-use Rattle.packets.proofs.checks.finish as finish-fn
+use Rattle.endings.proofs.finish.Symbol as finish-def
+use Rattle.endings.proofs.finish.Symbol.{name as #finish}
+use Rattle.endings.proofs.finish.Met as finish-thm
+use Rattle.endings.proofs.finish as finish-fn
 use Rattle.tables.proofs.Handed.{lends-fn, gives-fn, lends-with-fn, calls-fn}
 use Rattle.tables.proofs.fits as fits-fn
 use Rattle.packets.proofs.checks.begin as begin-fn
@@ -222,4 +222,4 @@ take-packet-spec 𝓤 H 𝓜 𝓖 𝓡 =
     (cited 𝓤 H (Fits 𝓤 H (𝓖 .A) (𝓜 .mem) (𝓡 .run)) 𝓜 𝓡 code.env #fits fits-def.routine code.calls-tables·fits (fits-thm.met 𝓤 H 𝓜 𝓖 𝓡))
     (cited 𝓤 H (Begin 𝓤 H (𝓖 .A) (𝓜 .mem) (𝓡 .run)) 𝓜 𝓡 code.env #begin begin-def.routine code.calls-packets·checks·begin (begin-thm.met 𝓤 H 𝓜 𝓖 𝓡))
     (cited 𝓤 H (Walk 𝓤 H (𝓖 .A) (𝓜 .mem) (𝓡 .run)) 𝓜 𝓡 code.env #walk walk-def.routine code.calls-walks·walk (walk-thm.met 𝓤 H 𝓜 𝓖 𝓡))
-    (cited 𝓤 H (Finish 𝓤 H (𝓖 .A) (𝓜 .mem) (𝓡 .run)) 𝓜 𝓡 code.env #finish finish-def.routine code.calls-packets·checks·finish (finish-thm.met 𝓤 H 𝓜 𝓖 𝓡)))
+    (cited 𝓤 H (Finish 𝓤 H (𝓖 .A) (𝓜 .mem) (𝓡 .run)) 𝓜 𝓡 code.env #finish finish-def.routine code.calls-endings·finish (finish-thm.met 𝓤 H 𝓜 𝓖 𝓡)))

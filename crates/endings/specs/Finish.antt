@@ -5,10 +5,10 @@ use Rattle.answers.specs.declared.Answer.the-variants.{Accepted}
 use Rattle.streams.specs.Conn.{spaceOf}
 use Rattle.answers.specs.Answers.{accepts}
 use Rattle.spaces.specs.Spaces.{recordedOf}
 use Rattle.packets.specs.declared.Begun.{Begun}
 use Rattle.spaces.specs.declared.Records.{Records}
 use Rattle.steps.specs.declared.Stopped.{Stopped}
-use Rattle.packets.specs.declared.Took.{Took}
+use Rattle.endings.specs.declared.Took.{Took}
 
 -- the connection and the place where the walk stopped, with an answer and records
 abbrev pub tookAs : Stopped → Answer → Records → Took

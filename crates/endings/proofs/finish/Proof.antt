@@ -1,9 +1,9 @@
--- `packets::checks::finish` meets its contract: the matches ask whether the packet was accepted up to its frames, and whether they were.
+-- `endings::finish` meets its contract: the matches ask whether the packet was accepted up to its frames, and whether they were.
 -- Assumes nothing.
-use Rattle.packets.specs.Finish.{finishOf}
+use Rattle.endings.specs.Finish.{finishOf}
 use Rattle.answers.proofs.Accepts.{refused}
-use Rattle.packets.proofs.checks.finish.Statement.{statement}
-use Rattle.packets.proofs.checks.finish.Tie as tie
+use Rattle.endings.proofs.finish.Statement.{statement}
+use Rattle.endings.proofs.finish.Tie as tie
 
 returns : tie.Need-returns
 unfolding finishOf
