@@ -1,11 +1,10 @@
--- What the walk over frames rests on: a frame looks at a place of the table, a refused one is refused with a code, and one after which the walk goes on ends above its place.
+-- What the walk over frames rests on: a refused frame is refused with a code, and one after which the walk goes on ends above its place.
 -- Assumes nothing.
 use mathlib.Core.Path.{_≡_, refl, sym, _∙_}
-use mathlib.Core.Bool.{Bool, true, false, true≢false}
+use mathlib.Core.Bool.{true, false, true≢false}
 use mathlib.Core.Logic.{_⊎_, inl, inr}
 use mathlib.Core.List.{List}
 use Prim.Native.Nat.{ℕ, _<_}
-use native.Mathlib.Omega.{arith}
 use Rattle.answers.specs.declared.Answer.{Answer}
 use Rattle.answers.specs.declared.Answer.the-variants.{FrameEncoding, ProtocolViolation}
 use Rattle.frames.specs.declared.Kind.{Kind}
@@ -17,21 +16,9 @@ use Rattle.frames.proofs.Sound.{sound}
 use Rattle.streams.specs.declared.Conn.{Conn}
 use Rattle.entries.specs.declared.Entry.{Entry}
 use Rattle.entries.specs.Entry.{entryAt}
-use Rattle.streams.specs.Conn.{isOpen}
-use Rattle.answers.specs.Answers.{accepts}
 use Rattle.verdicts.specs.Verdict.{settledOf, judgedOf}
-use Rattle.steps.specs.declared.Request.{Request}
 use Rattle.steps.specs.Step.{requestOf, requestAt, decidedOf}
-use Rattle.tables.proofs.Long.{place-within}
 use Rattle.walks.specs.Walk.{decidedAt, steppedAt}
-
-pub place-low : (s : List ℕ) (at : ℕ) (kind : Kind) → requestAt s at kind .place < 192
-unfolding requestAt requestOf
-place-low s at kind = go (frameAt s at kind)
-  where
-    go : (r : Reading) → requestOf kind at r .place < 192
-    go (Got frame ty next) = place-within _
-    go (Refused answer ty) = omega arith
 
 -- a frame after which the connection is open was read, and ends above its place
 pub steps-on : (c : Conn) (t : List Entry) (s : List ℕ) (at : ℕ) (kind : Kind) → steppedAt c t s at kind .more ≡ true → at < steppedAt c t s at kind .next
@@ -45,15 +32,3 @@ steps-on c t s at kind = go (frameAt s at kind) refl
     go : (r : Reading) → frameAt s at kind ≡ r → decidedOf c (entryAt t (requestOf kind at r .place)) (requestOf kind at r) .stepped .more ≡ true → at < decidedOf c (entryAt t (requestOf kind at r .place)) (requestOf kind at r) .stepped .next
     go (Got frame ty next) e p = sound s at kind e .above
     go (Refused answer ty) e p = absurd (true≢false (sym p ∙ barred answer ty _ (codes s at kind e)))
-
--- and the connection after it is open
-pub still-open : (c : Conn) (t : List Entry) (s : List ℕ) (at : ℕ) (kind : Kind) → steppedAt c t s at kind .more ≡ true → isOpen (steppedAt c t s at kind .conn .mark) ≡ true
-unfolding decidedAt decidedOf
-still-open c t s at kind = go (requestAt s at kind)
-  where
-    go : (a : Request) → decidedOf c (entryAt t (a .place)) a .stepped .more ≡ true → isOpen (decidedOf c (entryAt t (a .place)) a .stepped .conn .mark) ≡ true
-    go a = by-test (accepts (a .answer)) refl
-      where
-        by-test : (b : Bool) → accepts (a .answer) ≡ b → decidedOf c (entryAt t (a .place)) a .stepped .more ≡ true → isOpen (decidedOf c (entryAt t (a .place)) a .stepped .conn .mark) ≡ true
-        by-test true e = rw e (λ p. p)
-        by-test false e = rw e (λ p. p)
