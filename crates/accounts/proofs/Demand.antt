@@ -3,11 +3,12 @@
 -- Assumes nothing.
 use Prim.Native.Nat.{ℕ, _+_, _-_, _/_, _%_, _≤_, _<_, max}
 use mathlib.Core.Path.{_≡_, refl, sym, _∙_, ap, subst}
-use mathlib.Core.Bool.{Bool, true, false, not, and-eq-true-iff}
+use mathlib.Core.Bool.{Bool, true, false, not, _&&_, and-eq-true-iff}
 use mathlib.Core.List.{List, []}
 use native.Mathlib.Omega.{arith}
 use native.Mathlib.Decide.{ℕ-discrete, decLe}
 use lib.Dec.{ltb, eqb}
+use lib.ListN.{length}
 use borrow.Author.Tests.{lt-ltb, le-ltb, eq-eqb, ne-eqb, ltb-true, eqb-false, not-true}
 use Rattle.answers.specs.Choice.{_⇒_∣_}
 use Rattle.answers.specs.declared.Answer.{Answer}
@@ -16,20 +17,22 @@ use Rattle.streams.specs.declared.Conn.{Conn}
 use Rattle.entries.specs.declared.Entry.{Entry}
 use Rattle.streams.specs.declared.Limits.{Limits}
 use Rattle.streams.specs.declared.Mark.the-variants.{Open}
-use Rattle.halves.specs.Stream.{streamOf, halfOf, receives, placeOf}
+use Rattle.halves.specs.Stream.{streamOf, halfOf, ordinalOf, receives, listed, placeOf}
 use Rattle.entries.specs.Entry.{finalOf, entryAt, entryOf}
 use Rattle.streams.specs.Conn.{isOpen, openedOf, countOf}
 use Rattle.views.specs.declared.View.the-variants.{Ends}
 use Rattle.rules.specs.Rules.{rule1, rule2, rule3, rule4, rule5, endsOf}
 use Rattle.verdicts.specs.Verdict.{verdictOf}
 use Rattle.limits.specs.Fits.{sumTo, fits}
-use Rattle.accounts.specs.History.{Event, ruledOf, State, answerOf, stateOf, AllAccepted, own, furthestOf, finalNamed, furthest, creditOf, maySend, granted, ruling}
+use Rattle.accounts.specs.History.{Event, ruledOf, State, answerOf, stateOf, AllAccepted, own, furthestOf, finalNamed, furthest, ruling}
 use Rattle.accounts.specs.History.Event.{Got}
-use Rattle.accounts.proofs.Tests.{Has, has-listed, place-is}
+use Rattle.accounts.specs.Advertised.{creditBy, streamCreditBy, countBy, maySendBy, grantedBy}
+use Rattle.accounts.proofs.Tests.{not-both, Has, has-listed, listed-has, place-is}
 use Rattle.accounts.proofs.Sums.{sum-same, sum-le, sum-at, sum-more, sum-streams}
 use Rattle.accounts.proofs.Fits.{Fits, fits-test}
 use Rattle.accounts.proofs.Steps.{may}
 use Rattle.accounts.proofs.Owned.{owned, unowned, always}
+use Rattle.accounts.proofs.Advertised.{Said, said, credit-said, credit-none}
 
 -- ---- the accounts of a history
 
@@ -63,11 +66,21 @@ total-is-sum o h a n l =
 
 -- ---- room for all
 
+-- a stream's credit, by the table; the streams on which the peer may send, by the connection; and the sum of their credits
+creditOf : State → ℕ → ℕ
+creditOf s id = listed id ⇒ entryOf (s .table) id .credit ∣ 0
+
+maySend : Conn → ℕ → Bool
+maySend c id = receives (halfOf id) && ltb (ordinalOf id) (countOf c (halfOf id))
+
+granted : State → ℕ
+granted s = sumTo 256 (λ id. maySend (s .conn) id ⇒ creditOf s id ∣ 0)
+
 may-send : (c : Conn) (id : ℕ) → id % 4 < 3 → id / 4 < countOf c (id % 4) → maySend c id ≡ true
 unfolding maySend
 may-send c id a b = simp (lt-ltb (id % 4) 3 a, lt-ltb _ _ b)
 
-pub credit-is : (s : State) (id : ℕ) → Has id → creditOf s id ≡ entryOf (s .table) id .credit
+credit-is : (s : State) (id : ℕ) → Has id → creditOf s id ≡ entryOf (s .table) id .credit
 unfolding creditOf
 credit-is s id b = simp (has-listed id b)
 
@@ -95,7 +108,7 @@ module _ (s : State) (f : Fits (s .conn) (s .table)) where
           rw (ne-eqb _ _ p, u) (omega arith)
 
   -- a stream that keeps to its own limits is never refused for its neighbours
-  pub room : (id end : ℕ) → id % 4 < 3 → id / 4 < countOf (s .conn) (id % 4) → end ≤ entryOf (s .table) id .credit → granted s ≤ s .conn .limits .credit
+  room : (id end : ℕ) → id % 4 < 3 → id / 4 < countOf (s .conn) (id % 4) → end ≤ entryOf (s .table) id .credit → granted s ≤ s .conn .limits .credit
       → s .conn .total + (end - entryOf (s .table) id .end) ≤ s .conn .limits .credit
   unfolding granted share endAt
   room id end a b l enough =
@@ -132,13 +145,42 @@ last-rules limit total credit x end f = go (decLe end credit)
     go (yes p) = simp (le-ltb _ _ p, le-ltb _ _ (f p))
     go (no p) = simp (lt-ltb credit end (omega arith))
 
+-- ---- by the history: the credits and counts of a state are those that its history says
+
+credit-by : (o : Limits) (h : List Event) (id : ℕ) → AllAccepted o h → creditOf (stateOf o h) id ≡ streamCreditBy o h id
+unfolding creditOf
+credit-by o h id a = go (listed id) refl
+  where
+    go : (b : Bool) → listed id ≡ b → (listed id ⇒ entryOf (stateOf o h .table) id .credit ∣ 0) ≡ streamCreditBy o h id
+    go true e = rw e (credit-said o h id a (listed-has id e))
+    go false e = rw e (sym (credit-none o h id a (λ b. not-both _ (has-listed id b) e)))
+
+module _ (o : Limits) (h : List Event) (two : length (o .counts) ≡ 2) (a : AllAccepted o h) where
+  abbrev by : Said o h (stateOf o h .conn)
+  by = said o h two a
+
+  count-by : (id : ℕ) → countOf (stateOf o h .conn) (id % 4) ≡ countBy o h (id % 4)
+  count-by id = by .count (id % 4) (omega arith)
+
+  may-by : (id : ℕ) → maySend (stateOf o h .conn) id ≡ maySendBy o h id
+  unfolding maySend
+  may-by id = ap (λ (n : ℕ). receives (id % 4) && ltb (id / 4) n) (count-by id)
+
+  granted-by : granted (stateOf o h) ≡ grantedBy o h
+  unfolding granted grantedBy
+  granted-by = sum-same 256 (λ id. maySend (stateOf o h .conn) id ⇒ creditOf (stateOf o h) id ∣ 0) (λ id. maySendBy o h id ⇒ streamCreditBy o h id ∣ 0) (λ id l. λ j. may-by id j ⇒ credit-by o h id a j ∣ 0)
+
 -- a history of accepted events that left the connection open, and with enough credit for all
 pub record Running (o : Limits) (h : List Event) : Type 0 where
+  pub two : length (o .counts) ≡ 2
   pub accepted : AllAccepted o h
   pub still-open : stateOf o h .conn .mark ≡ Open
-  pub enough : granted (stateOf o h) ≤ stateOf o h .conn .limits .credit
+  pub enough : grantedBy o h ≤ creditBy o h
 
 module _ (o : Limits) (h : List Event) (r : Running o h) where
+  enough-in : granted (stateOf o h) ≤ stateOf o h .conn .limits .credit
+  enough-in = omega (arith, r .enough, granted-by o h (r .two) (r .accepted), by o h (r .two) (r .accepted) .credit)
+
   verdict-by : (id end : ℕ) (fin : Bool) → endsOf (stateOf o h .conn) (entryOf (stateOf o h .table) id) id end fin ≡ ruling (countOf (stateOf o h .conn) (halfOf id)) (creditOf (stateOf o h) id) (own h id) id end fin
   unfolding endsOf ruling
   verdict-by id end fin = go (rule1 n (streamOf id)) refl (rule2 n (streamOf id)) refl
@@ -171,7 +213,7 @@ module _ (o : Limits) (h : List Event) (r : Running o h) where
           let k = credit-is (stateOf o h) id has in
           (λ j. rule3 (w .size-is j) (w .end-is j) end fin ⇒ FinalSize ∣ rule4 (sym k j) end ⇒ FlowControl ∣ rule5 (stateOf o h .conn .limits .credit) (stateOf o h .conn .total) (w .end-is j) end ⇒ FlowControl ∣ Accepted)
           ∙ ap (λ (x : Answer). rule3 (finalNamed (own h id)) (furthestOf (own h id)) end fin ⇒ FinalSize ∣ x)
-          (last-rules (stateOf o h .conn .limits .credit) (stateOf o h .conn .total) (creditOf (stateOf o h) id) (furthestOf (own h id)) end (λ l. omega (arith, w .end-is, room (stateOf o h) f id end (m .0) (m .1) (omega arith) (r .enough))))
+          (last-rules (stateOf o h .conn .limits .credit) (stateOf o h .conn .total) (creditOf (stateOf o h) id) (furthestOf (own h id)) end (λ l. omega (arith, w .end-is, room (stateOf o h) f id end (m .0) (m .1) (omega arith) enough-in)))
 
       go : (x : Bool) → rule1 n (streamOf id) ≡ x → (y : Bool) → rule2 n (streamOf id) ≡ y
           → (rule1 n (streamOf id) ⇒ StreamState ∣ rule2 n (streamOf id) ⇒ StreamLimit ∣ entered) ≡ (rule1 n (streamOf id) ⇒ StreamState ∣ rule2 n (streamOf id) ⇒ StreamLimit ∣ named)
@@ -183,20 +225,25 @@ module _ (o : Limits) (h : List Event) (r : Running o h) where
   open-is = ap isOpen (r .still-open)
 
   -- Demand 3, the verdict: it is the ruling by the frame, the stream count for its type, the stream's credit, and its own accepted frames
-  pub verdict-is-own : (id end : ℕ) (fin : Bool) → answerOf (stateOf o h) (Got (Ends id end fin)) ≡ ruling (countOf (stateOf o h .conn) (halfOf id)) (creditOf (stateOf o h) id) (own h id) id end fin
+  pub verdict-is-own : (id end : ℕ) (fin : Bool) → answerOf (stateOf o h) (Got (Ends id end fin)) ≡ ruling (countBy o h (halfOf id)) (streamCreditBy o h id) (own h id) id end fin
   unfolding answerOf ruledOf verdictOf
-  verdict-is-own id end fin = simp (fits-test _ _ (always o h (r .accepted)), open-is) (verdict-by id end fin)
+  verdict-is-own id end fin = simp (fits-test _ _ (always o h (r .accepted)), open-is) (verdict-by id end fin ∙ (λ j. ruling (count-by o h (r .two) (r .accepted) id j) (credit-by o h id (r .accepted) j) (own h id) id end fin))
 
   -- and rule 5 never refuses what rules 1, 2 and 4 let pass
-  pub neighbours-never : (id end : ℕ) → maySend (stateOf o h .conn) id ≡ true → end ≤ creditOf (stateOf o h) id → rule5 (stateOf o h .conn .limits .credit) (stateOf o h .conn .total) (entryOf (stateOf o h .table) id .end) end ≡ false
-  unfolding maySend rule5
+  pub neighbours-never : (id end : ℕ) → maySendBy o h id ≡ true → end ≤ streamCreditBy o h id → rule5 (creditBy o h) (sumTo 256 (furthest h)) (furthest h id) end ≡ false
+  unfolding rule5
   neighbours-never id end m l =
       let f = always o h (r .accepted) in
-      let a = and-eq-true-iff (receives (id % 4)) (ltb (id / 4) (countOf (stateOf o h .conn) (id % 4))) .0 m in
+      let a = and-eq-true-iff (receives (id % 4)) (ltb (id / 4) (countBy o h (id % 4))) .0 m in
       let k : id % 4 < 3 = ltb-true (id % 4) 3 (a .0) in
-      let b : id / 4 < countOf (stateOf o h .conn) (id % 4) = ltb-true _ _ (a .1) in
+      let n = count-by o h (r .two) (r .accepted) id in
+      let b : id / 4 < countOf (stateOf o h .conn) (id % 4) = omega (arith, ltb-true (id / 4) (countBy o h (id % 4)) (a .1)) in
       let has : Has id = (k, omega (arith, f .conn .count-top (id % 4))) in
-      le-ltb _ _ (room (stateOf o h) f id end k b (omega (arith, credit-is (stateOf o h) id has)) (r .enough))
+      let e = owned o h id (r .accepted) has .end-is in
+      let t = total-is-sum o h (r .accepted) 256 (omega arith) in
+      let s = by o h (r .two) (r .accepted) .credit in
+      let q = room (stateOf o h) f id end k b (omega (arith, credit-is (stateOf o h) id has, credit-by o h id (r .accepted))) enough-in in
+      le-ltb (creditBy o h) (sumTo 256 (furthest h) + (end - furthest h id)) (omega arith)
 
 nothing : furthestOf [] ≡ 0
 unfolding furthestOf
@@ -207,15 +254,15 @@ nothing = refl
 -- the sum, and the credits, of every history; the table always fits
 pub record Accounts (o : Limits) (h : List Event) : Type 0 where
   pub total-is : (n : ℕ) → 256 ≤ n → stateOf o h .conn .total ≡ sumTo n (furthest h)
-  pub total-within : stateOf o h .conn .total ≤ stateOf o h .conn .limits .credit
-  pub each-within : (id : ℕ) → furthest h id ≤ creditOf (stateOf o h) id
+  pub total-within : stateOf o h .conn .total ≤ creditBy o h
+  pub each-within : (id : ℕ) → furthest h id ≤ streamCreditBy o h id
   pub never-120 : fits (stateOf o h .conn) (stateOf o h .table) ≡ true
 
-pub accounts : (o : Limits) (h : List Event) → AllAccepted o h → Accounts o h
-accounts o h a = record {
+pub accounts : (o : Limits) (h : List Event) → length (o .counts) ≡ 2 → AllAccepted o h → Accounts o h
+accounts o h two a = record {
   total-is = total-is-sum o h a;
-  total-within = always o h a .conn .within;
-  each-within = λ id. each id (decLe 3 (id % 4)) (decLe 64 (id / 4));
+  total-within = omega (arith, always o h a .conn .within, said o h two a .credit);
+  each-within = λ id. omega (arith, each id (decLe 3 (id % 4)) (decLe 64 (id / 4)), credit-by o h id a);
   never-120 = fits-test _ _ (always o h a);
 }
   where

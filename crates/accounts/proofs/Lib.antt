@@ -1,3 +1,4 @@
+pub mod Advertised
 pub mod Borders
 pub mod Demand
 pub mod Fits

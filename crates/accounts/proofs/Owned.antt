@@ -48,7 +48,7 @@ list-at zero i f d l = absurd (omega arith)
 list-at (suc n) zero f d l = refl
 list-at (suc n) (suc i) f d l = list-at n i (λ k. f (suc k)) d (omega arith)
 
-table-at : (o : Limits) (i : ℕ) → i < 192 → entryAt (opened o .table) i ≡ fresh (initialOf o (i / 64))
+pub table-at : (o : Limits) (i : ℕ) → i < 192 → entryAt (opened o .table) i ≡ fresh (initialOf o (i / 64))
 unfolding opened
 table-at o i l = list-at 192 i (λ k. fresh (initialOf o (k / 64))) (fresh 0) l
 
@@ -93,7 +93,7 @@ tops o h =
     each x y z (suc (suc half)) = z
 
 -- nothing is open at first
-none-open : (o : Limits) (half : ℕ) → openedOf (openedConn o Open) half ≡ 0
+pub none-open : (o : Limits) (half : ℕ) → openedOf (openedConn o Open) half ≡ 0
 none-open o zero = refl
 none-open o (suc zero) = refl
 none-open o (suc (suc zero)) = refl

@@ -161,14 +161,17 @@ same-grows c = record { opens = λ half. omega arith; inits = λ half. refl }
 touch : (c : Conn) (t : List Entry) (id : ℕ) → Fits c t → ConnOk (openTo c id (c .total)) → Fits (openTo c id (c .total)) (set t (placeOf 0) (entryOf t 0))
 touch c t id f k = leaves c (openTo c id (c .total)) t f (open-grows c id (c .total)) refl k
 
-block : (c : Conn) (t : List Entry) (id : ℕ) → Fits c t → blockedOf c id ≡ Accepted → Fits (openTo c id (c .total)) (set t (placeOf 0) (entryOf t 0))
+pub blocks-below : (c : Conn) (id : ℕ) → blockedOf c id ≡ Accepted → id / 4 < countOf c (id % 4)
 unfolding blockedOf
-block c t id f h =
+blocks-below c id h =
     let a = passed (rule1 (countOf c (id % 4)) (streamOf id)) StreamState _ refl h in
     let b = passed (rule2 (countOf c (id % 4)) (streamOf id)) StreamLimit Accepted refl (a .1) in
-    touch c t id f (open-below c id (c .total) (f .conn) (f .conn .within) (may (countOf c (id % 4)) id (a .0) (b .0) .1))
+    may (countOf c (id % 4)) id (a .0) (b .0) .1
 
-send-below : (c : Conn) (id : ℕ) → forSenderOf c id ≡ Accepted → id / 4 < countOf c (id % 4)
+block : (c : Conn) (t : List Entry) (id : ℕ) → Fits c t → blockedOf c id ≡ Accepted → Fits (openTo c id (c .total)) (set t (placeOf 0) (entryOf t 0))
+block c t id f h = touch c t id f (open-below c id (c .total) (f .conn) (f .conn .within) (blocks-below c id h))
+
+pub send-below : (c : Conn) (id : ℕ) → forSenderOf c id ≡ Accepted → id / 4 < countOf c (id % 4)
 unfolding forSenderOf rule2
 send-below c id h = go (decLe (countOf c (id % 4)) (id / 4))
   where
@@ -240,10 +243,10 @@ unfolding replyOf
 reply-credit c e n h = h
 
 -- the peer's halves are 0 and 2
-peers-two : (half : ℕ) → peers half ≡ true → (half ≡ 0) ⊎ (half ≡ 2)
+pub peers-two : (half : ℕ) → peers half ≡ true → (half ≡ 0) ⊎ (half ≡ 2)
 peers-two half p = ⊎-elim (λ e. inl (eqb-true half 0 e)) (λ e. inr (eqb-true half 2 e)) (or-true (eqb half 0) (eqb half 2) p)
 
-same-half : (a b : ℕ) → peers a ≡ true → peers b ≡ true → a / 2 ≡ b / 2 → a ≡ b
+pub same-half : (a b : ℕ) → peers a ≡ true → peers b ≡ true → a / 2 ≡ b / 2 → a ≡ b
 same-half a b p q e = ⊎-elim (λ x. ⊎-elim (λ y. omega arith) (λ y. omega arith) (peers-two b q)) (λ x. ⊎-elim (λ y. omega arith) (λ y. omega arith) (peers-two b q)) (peers-two a p)
 
 count-conn : (c : Conn) (ty n : ℕ) → ConnOk c → peers (ty % 4) ≡ true → countOf c (ty % 4) < n → n ≤ mostStreams → ConnOk (limitedTo c (withCount (c .limits) (ty % 4) n))
@@ -291,7 +294,7 @@ open-next c t e ty f h =
     touch c t (nextOf c ty) f (open-conn c (nextOf c ty) (c .total) (f .conn) (f .conn .within) (omega arith) (λ q. let x = not-true (peers (ty % 4)) (p .1) in let y = ap peers (sym m) ∙ q in impossible cc))
 
 -- a raised stream is open, and so it has an entry
-raise-has : (c : Conn) (e : Entry) (id n : ℕ) → ConnOk c → replyOf c e (RaiseStream id n) ≡ Accepted → Has id × (id / 4 < openedOf c (id % 4)) × (e .credit < n) × (n ≤ mostCredit)
+pub raise-has : (c : Conn) (e : Entry) (id n : ℕ) → ConnOk c → replyOf c e (RaiseStream id n) ≡ Accepted → Has id × (id / 4 < openedOf c (id % 4)) × (e .credit < n) × (n ≤ mostCredit)
 unfolding replyOf
 raise-has c e id n k h =
     let a = passed (not (receives (id % 4)) || leb (openedOf c (id % 4)) (id / 4)) NotServed _ refl h in

@@ -147,19 +147,7 @@ finalNamed (x ∷ l) = x .fin ⇒ Known (x .end) ∣ finalNamed l
 abbrev pub furthest : List Event → ℕ → ℕ
 furthest h id = furthestOf (own h id)
 
--- ---- credit for all
-
--- a stream's credit; streams without an entry have none
-unfoldable pub creditOf : State → ℕ → ℕ
-creditOf s id = listed id ⇒ entryOf (s .table) id .credit ∣ 0
-
--- the streams on which the peer may send: its own below their counts, and our two-way streams that are open
-unfoldable pub maySend : Conn → ℕ → Bool
-maySend c id = receives (halfOf id) && ltb (ordinalOf id) (countOf c (halfOf id))
-
--- the sum of their credits, ended ones included; the IDs below 256 are the ordinals 0 to 63 of each half
-unfoldable pub granted : State → ℕ
-granted s = sumTo 256 (λ id. maySend (s .conn) id ⇒ creditOf s id ∣ 0)
+-- ---- the verdict
 
 -- rules 1 to 4 for a STREAM or RESET_STREAM frame, by the stream count of its half, the stream's credit and its own accepted frames: no other stream is looked at
 unfoldable pub ruling : ℕ → ℕ → List End → ℕ → ℕ → Bool → Answer

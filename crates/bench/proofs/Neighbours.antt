@@ -27,13 +27,15 @@ use Rattle.steps.specs.Step.{requestOf, requestAt, decidedOf}
 use Rattle.local.specs.Table.{filledTo, openedTable}
 use Rattle.walks.specs.Walk.{decidedAt}
 use Rattle.receive.specs.Taking.{tookFrameOf, frameTable}
-use Rattle.accounts.specs.History.{creditOf, maySend, granted}
+use Rattle.steps.specs.Step.{shownOf, shownAt}
+use Rattle.accounts.specs.Advertised.{creditBy, streamCreditBy, countBy, grantedBy}
 use Rattle.demands.specs.Hosts.{hosted, kept}
+use Rattle.demands.specs.Heard.{onto, heardAfter}
 use Rattle.bench.specs.Neighbours.{Met, Suffers}
 
 pub met : Met
-unfolding numberAt fieldAt valuesIn bigEndian shortest sizeOf formOf layouts layoutOf known admitted numbersAt optionalAt sizedAt countedAt rangedAt faultOf aboveOf frameOf endedAt partsAt fieldsAt headAt frameAt idOf listed placeOf finalOf reached countOf limitsFit openingOf rule1 rule2 rule3 rule4 rule5 endsOf endOf verdictOf connHeard entryHeard settledOf judgedOf isFresh entryFitsAs openFit connFits sumTo allTo fits gateOf openingWhen entriesOf requestOf requestAt decidedOf filledTo openedTable decidedAt tookFrameOf frameTable hosted kept creditOf maySend granted
-met = record { was-hosted = refl; still-open = refl; for-all = lit≤ tt }
+unfolding numberAt fieldAt valuesIn bigEndian shortest sizeOf formOf layouts layoutOf known admitted numbersAt optionalAt sizedAt countedAt rangedAt faultOf aboveOf frameOf endedAt partsAt fieldsAt headAt frameAt idOf listed placeOf finalOf reached countOf limitsFit openingOf rule1 rule2 rule3 rule4 rule5 endsOf endOf verdictOf connHeard entryHeard settledOf judgedOf isFresh entryFitsAs openFit connFits sumTo allTo fits gateOf openingWhen entriesOf requestOf requestAt decidedOf filledTo openedTable decidedAt tookFrameOf frameTable hosted kept shownOf shownAt creditBy streamCreditBy countBy grantedBy onto heardAfter
+met = record { was-hosted = record { accepted = refl; two = refl }; still-open = refl; for-all = lit≤ tt }
 
 pub suffers : Suffers
 unfolding numberAt fieldAt valuesIn bigEndian shortest sizeOf formOf layouts layoutOf known admitted numbersAt optionalAt sizedAt countedAt rangedAt faultOf aboveOf frameOf endedAt partsAt fieldsAt headAt frameAt idOf listed placeOf finalOf reached countOf limitsFit openingOf rule1 rule2 rule3 rule4 rule5 endsOf endOf verdictOf connHeard entryHeard settledOf judgedOf isFresh entryFitsAs openFit connFits sumTo allTo fits gateOf openingWhen entriesOf requestOf requestAt decidedOf filledTo openedTable decidedAt tookFrameOf frameTable hosted kept

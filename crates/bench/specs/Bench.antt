@@ -17,15 +17,16 @@ use Rattle.records.specs.Ring.{takenOf}
 use Rattle.halves.specs.Stream.{entries}
 use Rattle.entries.specs.Entry.{fresh}
 use Rattle.streams.specs.Small.{small}
-use Rattle.demands.specs.Hosts.{Host, answered, acted, hosted}
+use Rattle.demands.specs.Hosts.{answered, acted, hosted}
 use Rattle.demands.specs.Hosts.Act.{TakeFrame}
+use Rattle.accounts.specs.History.{State}
 
 -- the small connection, opened on a table of 192 entries
-abbrev pub bench : Host
+abbrev pub bench : State
 bench = hosted small (replicate entries (fresh 0))
 
 -- payloads of one 1-RTT frame, each taken in turn: the number of each answer, and the total after it
-unfoldable pub taken : Host → List (List ℕ) → List (ℕ × ℕ)
+unfoldable pub taken : State → List (List ℕ) → List (ℕ × ℕ)
 taken h [] = []
 taken h (s ∷ l) = (numberOf (answered h (TakeFrame s 0 OneRtt)), acted h (TakeFrame s 0 OneRtt) .conn .total) ∷ taken (acted h (TakeFrame s 0 OneRtt)) l
 

@@ -31,22 +31,23 @@ use Rattle.packets.specs.declared.Begun.{Begun}
 use Rattle.spaces.specs.declared.Records.{Records}
 use Rattle.headers.specs.declared.Header.{Header}
 use Rattle.headers.specs.declared.Header.the-variants as Header'
+use Rattle.demands.specs.Demand1.{closes}
 
 -- an answer that neither accepts nor closes; and it is 120 only where something does not fit
 pub record Quiet (whole : Bool) (answer : Answer) : Type 0 where
   pub refuses : accepts answer ≡ false
-  pub leaves : eqb (numberOf answer) 10 ≡ false
+  pub leaves : closes answer ≡ false
   pub fitting : whole ≡ true → eqb (numberOf answer) 120 ≡ false
 
 -- live: the table fits and the connection is open; whole: the table and the records fit
 pub data Begins (c : Conn) (end : ℕ) (live whole : Bool) : Begun → Type 0 where
   goes : (kind : Kind) (at number : ℕ) → live ≡ true → Begins c end live whole (record { answer = Accepted; conn = c; kind = kind; at = at; number = number })
-  closes : live ≡ true → Begins c end live whole (closesOf c end)
+  shuts : live ≡ true → Begins c end live whole (closesOf c end)
   stays : (answer : Answer) → Quiet whole answer → Begins c end live whole (refusedOf c answer end)
 
 -- what a number that was tested can be answered
 record Tested (answer : Answer) : Type 0 where
-  leaves : eqb (numberOf answer) 10 ≡ false
+  leaves : closes answer ≡ false
   fitting : eqb (numberOf answer) 120 ≡ false
 
 tested : (R : Record) (n : ℕ) → Tested (testOf R n)
@@ -68,8 +69,8 @@ module _ (c : Conn) (live whole : Bool) (l : live ≡ true) where
   unfolding testedOf
   numbered test kind number first n end t =
       holds (Begins c end live whole) (not (accepts test)) _ _ (λ e. stays test (record { refuses = not-true _ e; leaves = t .leaves; fitting = λ f. t .fitting })) (λ e.
-      holds (Begins c end live whole) (reservedOf first) _ _ (λ r. closes l) (λ r.
-      holds (Begins c end live whole) (leb end n) _ _ (λ m. closes l) (λ m. goes kind n number l)))
+      holds (Begins c end live whole) (reservedOf first) _ _ (λ r. shuts l) (λ r.
+      holds (Begins c end live whole) (leb end n) _ _ (λ m. shuts l) (λ m. goes kind n number l)))
 
   in-space : (R : Record) (kind : Kind) (first : ℕ) (s : List ℕ) → Begins c (length s) live whole (inSpaceOf c R kind first s)
   unfolding inSpaceOf recoveredOf

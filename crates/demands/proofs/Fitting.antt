@@ -60,11 +60,13 @@ use Rattle.steps.specs.Gate.{gateOf}
 use Rattle.walks.specs.Walk.{decidedAt, steppedAt, Walked, walkFrom}
 use Rattle.receive.specs.Taking.{gateAt, tookFrameOf, begunOf, tookOf}
 use Rattle.local.specs.Calling.{callPlace, calledAt}
-use Rattle.demands.specs.Hosts.{Host, Act, answered, acted, kept, hosted}
+use Rattle.accounts.specs.History.{State}
+use Rattle.demands.specs.Hosts.{Act, answered, recordsAfter}
 use Rattle.demands.specs.Hosts.Act.{TakeFrame, TakePacket, Make, HandOut}
+use Rattle.demands.specs.Demand3.{Fitted}
 use Rattle.demands.proofs.Begins.{Begins, begins}
-use Rattle.demands.proofs.Begins.Begins.{goes, closes, stays}
-use Rattle.demands.proofs.Lifted.{IfRefused, refused-with}
+use Rattle.demands.proofs.Begins.Begins.{goes, shuts, stays}
+use Rattle.demands.proofs.Frames.{refused-with, Codes, decided-with}
 
 -- an answer that is not 120
 pub record Fitting (answer : Answer) : Type 0 where
@@ -88,38 +90,11 @@ TookFits x = Fitting (x .answer)
 
 -- ---- the rules
 
+-- every code of a frame
+fitting-codes : Codes Fitting
+fitting-codes = record { accepted = record { not-120 = refl }; flow = record { not-120 = refl }; limit = record { not-120 = refl }; state = record { not-120 = refl }; size = record { not-120 = refl }; encoding = record { not-120 = refl }; violation = record { not-120 = refl } }
+
 module _ (c : Conn) where
-  ends : (e : Entry) (id end : ℕ) (fin : Bool) → Fitting (endsOf c e id end fin)
-  unfolding endsOf
-  ends e id end fin =
-      holds Fitting (rule1 (countOf c (halfOf id)) (streamOf id)) StreamState _ (λ t. record { not-120 = refl }) (λ t.
-      holds Fitting (rule2 (countOf c (halfOf id)) (streamOf id)) StreamLimit _ (λ t. record { not-120 = refl }) (λ t.
-      holds Fitting (rule3 (finalOf (e .size)) (e .end) end fin) FinalSize _ (λ t. record { not-120 = refl }) (λ t.
-      holds Fitting (rule4 (e .credit) end) FlowControl _ (λ t. record { not-120 = refl }) (λ t.
-      holds Fitting (rule5 (c .limits .credit) (c .total) (e .end) end) FlowControl Accepted (λ t. record { not-120 = refl }) (λ t. record { not-120 = refl })))))
-
-  blocks : (id : ℕ) → Fitting (blockedOf c id)
-  unfolding blockedOf
-  blocks id =
-      holds Fitting (rule1 (countOf c (halfOf id)) (streamOf id)) StreamState _ (λ t. record { not-120 = refl }) (λ t.
-      holds Fitting (rule2 (countOf c (halfOf id)) (streamOf id)) StreamLimit Accepted (λ t. record { not-120 = refl }) (λ t. record { not-120 = refl }))
-
-  for-sender : (id : ℕ) → Fitting (forSenderOf c id)
-  unfolding forSenderOf
-  for-sender id =
-      holds Fitting (not (sends (halfOf id))) StreamState _ (λ t. record { not-120 = refl }) (λ t.
-      holds Fitting (not (peers (halfOf id)) && leb (countOf c (halfOf id)) (streamOf id .ordinal)) StreamState _ (λ t. record { not-120 = refl }) (λ t.
-      holds Fitting (rule2 (countOf c (halfOf id)) (streamOf id)) StreamLimit Accepted (λ t. record { not-120 = refl }) (λ t. record { not-120 = refl })))
-
-  verdict-fits : (e : Entry) (v : View) → Fitting (verdictOf c e v)
-  unfolding verdictOf
-  verdict-fits e (Ends id end fin) = ends e id end fin
-  verdict-fits e (Blocks id) = blocks id
-  verdict-fits e (ForSender id) = for-sender id
-  verdict-fits e (Acks space largest) = holds Fitting (leb (nextOf c space) largest) ProtocolViolation Accepted (λ t. record { not-120 = refl }) (λ t. record { not-120 = refl })
-  verdict-fits e Closes = record { not-120 = refl }
-  verdict-fits e Nothing = record { not-120 = refl }
-
   raises : (present new ceiling : ℕ) → Fitting (raiseOf present new ceiling)
   unfolding raiseOf
   raises present new ceiling =
@@ -148,22 +123,9 @@ module _ (c : Conn) where
 
 -- ---- one frame, and the walk
 
-request-fits : (kind : Kind) (at : ℕ) (r : Reading) → IfRefused Fitting r → Fitting (requestOf kind at r .answer)
-unfolding requestOf
-request-fits kind at (Got frame ty next) f = record { not-120 = refl }
-request-fits kind at (Refused answer ty) f = f
-
-judged-fits : (c : Conn) (e : Entry) (ty : ℕ) (v : View) → JudgedFits (judgedOf c e ty v)
-unfolding judgedOf settledOf
-judged-fits c e ty v = holds JudgedFits (accepts (verdictOf c e v)) _ _ (λ a. record { not-120 = refl }) (λ a. verdict-fits c e v)
-
-decided-fits : (c : Conn) (e : Entry) (a : Request) → Fitting (a .answer) → Fitting (decidedOf c e a .stepped .answer)
-unfolding decidedOf
-decided-fits c e a f = holds (λ (d : Decided). Fitting (d .stepped .answer)) (accepts (a .answer)) _ _ (λ t. judged-fits c e (a .ty) (a .view)) (λ t. f)
-
 stepped-fits : (c : Conn) (t : List Entry) (s : List ℕ) (at : ℕ) (kind : Kind) → Fitting (steppedAt c t s at kind .answer)
 unfolding decidedAt requestAt
-stepped-fits c t s at kind = decided-fits c _ _ (request-fits kind at (frameAt s at kind) (refused-with Fitting (record { not-120 = refl }) (record { not-120 = refl }) s at kind))
+stepped-fits c t s at kind = decided-with (record { conn = c; table = t }) kind at Fitting fitting-codes (frameAt s at kind) (refused-with Fitting (record { not-120 = refl }) (record { not-120 = refl }) s at kind)
 
 abbrev StopFits : Walked → Type 0
 StopFits w = Fitting (w .stop .answer)
@@ -180,7 +142,7 @@ walk-fits (suc k) c t s at kind =
 begun-fits : (c : Conn) (end : ℕ) (live fit : Bool) (begun : Begun) → fit ≡ true → Begins c end live fit begun → Fitting (begun .answer)
 unfolding begin.closesOf begin.refusedOf
 begun-fits c end live fit _ f (goes kind at number e) = record { not-120 = refl }
-begun-fits c end live fit _ f (closes e) = record { not-120 = refl }
+begun-fits c end live fit _ f (shuts e) = record { not-120 = refl }
 begun-fits c end live fit _ f (stays answer q) = record { not-120 = q .fitting f }
 
 finish-fits : (begun : Begun) (w : Stopped) (rs : Records) → Fitting (begun .answer) → Fitting (w .answer) → Fitting (finishOf begun w rs .answer)
@@ -197,25 +159,25 @@ gate-fits : (fit : Bool) (mark : Mark) → fit ≡ true → Fitting (gateOf fit 
 unfolding gateOf
 gate-fits fit mark f = rw f (holds GateFits (not (isOpen mark)) _ _ (λ e. record { not-120 = refl }) (λ e. record { not-120 = refl }))
 
-module _ (h : Host) (f : fits (h .conn) (h .table) ≡ true) where
+module _ (h : State) (f : fits (h .conn) (h .table) ≡ true) where
   frame-fits : (s : List ℕ) (at : ℕ) (kind : Kind) → Fitting (answered h (TakeFrame s at kind))
   unfolding tookFrameOf
   frame-fits s at kind = holds FrameFits (gateAt (h .conn) (h .table) .passes) _ _ (λ p. stepped-fits (h .conn) (h .table) s at kind) (λ p. gate-fits _ (h .conn .mark) f)
 
-  packet-fits : (first : ℕ) (s : List ℕ) → recordsFit (h .records) ≡ true → Fitting (answered h (TakePacket first s))
+  packet-fits : (rs : Records) (first : ℕ) (s : List ℕ) → recordsFit rs ≡ true → Fitting (answered h (TakePacket rs first s))
   unfolding tookOf
-  packet-fits first s g =
-      let begun = begunOf (h .conn) (h .records) (h .table) first s in
-      finish-fits begun _ (h .records) (begun-fits (h .conn) (length s) _ _ begun (rw (f, g)) (begins (h .conn) (h .records) (fits (h .conn) (h .table)) first s))
+  packet-fits rs first s g =
+      let begun = begunOf (h .conn) rs (h .table) first s in
+      finish-fits begun _ rs (begun-fits (h .conn) (length s) _ _ begun (rw (f, g)) (begins (h .conn) rs (fits (h .conn) (h .table)) first s))
       (walk-fits (length s - begun .at) (begun .conn) (h .table) s (begun .at) (begun .kind))
 
   call-fits : (k : Call) → Fitting (answered h (Make k))
   unfolding calledAt
   call-fits k = holds CalledFits (fits (h .conn) (h .table)) _ _ (λ e. replied-fits (h .conn) (entryAt (h .table) (callPlace k)) k) (λ e. absurd (not-both _ f e))
 
-  pub answer-fits : (x : Act) → recordsFit (h .records) ≡ true → Fitting (answered h x)
+  pub answer-fits : (x : Act) → Fitted x → Fitting (answered h x)
   answer-fits (TakeFrame s at kind) g = frame-fits s at kind
-  answer-fits (TakePacket first s) g = packet-fits first s g
+  answer-fits (TakePacket rs first s) g = packet-fits rs first s g
   answer-fits (Make k) g = call-fits k
   answer-fits (HandOut space) g = handed-fits (h .conn) space
 
@@ -261,19 +223,10 @@ finish-sound begun w rs e =
     holds TookSound (accepts (begun .answer)) _ _ (λ a.
     holds TookSound (accepts (w .answer)) _ _ (λ b. recorded-fits rs (spaceOf (begun .kind)) (begun .number) e) (λ b. e)) (λ a. e)
 
-acted-sound : (h : Host) (x : Act) → recordsFit (h .records) ≡ true → recordsFit (acted h x .records) ≡ true
+-- the records that a packet hands back fit if those that came with it did, and those of spaces of which nothing came fit
+pub records-after : (h : State) (rs : Records) (first : ℕ) (s : List ℕ) → recordsFit rs ≡ true → recordsFit (recordsAfter h rs first s) ≡ true
 unfolding tookOf
-acted-sound h (TakeFrame s at kind) e = e
-acted-sound h (TakePacket first s) e = finish-sound _ _ (h .records) e
-acted-sound h (Make k) e = e
-acted-sound h (HandOut space) e = e
+records-after h rs first s e = finish-sound _ _ rs e
 
-kept-sound : (h : Host) (xs : List Act) → recordsFit (h .records) ≡ true → recordsFit (kept h xs .records) ≡ true
-unfolding kept
-kept-sound h [] e = e
-kept-sound h (x ∷ xs) e = kept-sound (acted h x) xs (acted-sound h x e)
-
--- From opening on the records can be, whatever was called.
-pub records-fit : (o : Limits) (t : List Entry) (xs : List Act) → recordsFit (kept (hosted o t) xs .records) ≡ true
-unfolding hosted
-records-fit o t xs = let s = can-be noneOf none-fits in kept-sound (hosted o t) xs (records-test _ (record { initial = s; handshake = s; application = s }))
+pub records-none : recordsFit (record { initial = noneOf; handshake = noneOf; application = noneOf }) ≡ true
+records-none = let s = can-be noneOf none-fits in records-test _ (record { initial = s; handshake = s; application = s })

@@ -16,7 +16,7 @@ use Rattle.calls.specs.declared.Replied.{Replied}
 use Rattle.calls.specs.Calls.{entryCalled, replyOf, settledOf, ruledOf, repliedOf}
 use Rattle.local.specs.Calling.{callPlace, calledTable}
 use Rattle.demands.specs.Kept.{TableKept}
-use Rattle.demands.proofs.Lifted.{same-table}
+use Rattle.demands.proofs.Frames.{same-table}
 
 module _ (c : Conn) (t : List Entry) where
   -- a call that leaves its entry leaves the table

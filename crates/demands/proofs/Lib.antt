@@ -1,8 +1,10 @@
-pub mod Acknowledged
-pub mod Begins
-pub mod Fitting
 pub mod Kept
+pub mod Begins
+pub mod Acknowledged
+pub mod Frames
+pub mod OneByOne
 pub mod Lifted
-pub mod Proved
+pub mod Fitting
 pub mod Recorded
+pub mod Proved
 pub mod Refusals

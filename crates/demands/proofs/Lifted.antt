@@ -1,30 +1,27 @@
 -- Whatever a host calls from opening on, the frames and calls that were accepted are a history, and what the host keeps is the state of that history, or that state closed with a code.
--- A frame is one event, a walk one after the other until the connection is not open any more; a closed connection is left as it is by all but the handing out of numbers.
+-- A frame is one event, a packet one after the other; a closed connection is left as it is by all but the handing out of numbers.
 -- Assumes nothing.
 use Prim.Native.Nat.{ℕ, zero, suc, _-_, _≤_, _<_, _/_}
 use mathlib.Core.Path.{_≡_, refl, sym, _∙_, ap, subst}
-use mathlib.Core.Bool.{Bool, true, false, not, _&&_}
+use mathlib.Core.Bool.{Bool, true, false, not, _&&_, and-eq-true-iff}
 use mathlib.Core.List.{List, [], _∷_, _++_}
-use mathlib.Core.Logic.{_⊎_, inl, inr}
 use native.Mathlib.Omega.{arith}
 use native.Mathlib.Decide.{ℕ-discrete}
-use lib.ListN.{length, getD, set, length-set}
-use lib.Seq.{set-getD, getD-set-same, getD-set-other, ext-getD}
+use lib.ListN.{length, set, length-set}
+use lib.Seq.{getD-set-same, getD-set-other, ext-getD}
 use lib.Dec.{ltb, leb, eqb}
 use borrow.Author.Tests.{le-leb, eqb-true, not-true, not-false}
 use Rattle.answers.specs.Choice.{_⇒_∣_}
 use Rattle.answers.specs.Answers.{accepts}
 use Rattle.answers.specs.declared.Answer.{Answer}
-use Rattle.answers.specs.declared.Answer.the-variants.{Accepted, FrameEncoding, ProtocolViolation, AboveCeiling, DoesNotFit}
+use Rattle.answers.specs.declared.Answer.the-variants.{Accepted, ProtocolViolation, AboveCeiling, DoesNotFit}
 use Rattle.answers.proofs.Accepts.{accepts-true}
 use Rattle.answers.proofs.Choice.{holds}
 use Rattle.answers.proofs.Distinct.{impossible}
 use Rattle.frames.specs.declared.Kind.{Kind}
 use Rattle.frames.specs.declared.Kind.the-variants.{OneRtt}
 use Rattle.frames.specs.declared.Reading.{Reading}
-use Rattle.frames.specs.declared.Reading.the-variants.{Got, Refused}
 use Rattle.frames.specs.Reading.{frameAt}
-use Rattle.frames.proofs.Codes.{codes}
 use Rattle.halves.specs.Stream.{placeOf}
 use Rattle.streams.specs.declared.Called.{Called}
 use Rattle.streams.specs.declared.Conn.{Conn}
@@ -35,12 +32,9 @@ use Rattle.streams.specs.declared.Mark.the-variants.{Open, Code}
 use Rattle.streams.specs.declared.Space.{Space}
 use Rattle.opening.specs.declared.Opened.{Opened}
 use Rattle.entries.specs.Entry.{mostCredit, fresh, entryAt, entryOf}
-use Rattle.streams.specs.Conn.{isOpen, markedAs, initialOf, nextOf, handedOn, handedOutOf, spaceOf}
-use Rattle.opening.specs.Opening.{openedConn, unopenedOf, openingOf}
-use Rattle.streams.specs.Conn.{limitsFit}
-use Rattle.views.specs.declared.View.{View}
-use Rattle.views.specs.View.{viewOf, streamIn}
-use Rattle.verdicts.specs.Verdict.{verdictOf, settledOf, judgedOf}
+use Rattle.streams.specs.Conn.{isOpen, markedAs, initialOf, nextOf, handedOn, handedOutOf, spaceOf, limitsFit}
+use Rattle.opening.specs.Opening.{openedConn, unopenedOf, openingOf, openingWhen, entriesOf}
+use Rattle.views.specs.View.{viewOf}
 use Rattle.calls.specs.declared.Call.{Call}
 use Rattle.calls.specs.declared.Replied.{Replied}
 use Rattle.calls.specs.Calls as calls
@@ -48,34 +42,31 @@ use Rattle.calls.specs.Calls.{replyOf, ruledOf as ruledCall, repliedOf}
 use Rattle.limits.specs.Fits.{fits}
 use Rattle.packets.specs.declared.Begun.{Begun}
 use Rattle.spaces.specs.declared.Records.{Records}
+use Rattle.steps.specs.declared.Gate.{Gate}
 use Rattle.steps.specs.declared.Stopped.{Stopped}
 use Rattle.spaces.specs.Spaces.{recordedOf}
 use Rattle.packets.specs.Begin.{refusedOf, closesOf}
 use Rattle.endings.specs.Finish.{tookAs, finishOf}
-use Rattle.steps.specs.declared.Decided.{Decided}
 use Rattle.steps.specs.Gate.{gateOf}
-use Rattle.opening.specs.Opening.{openingWhen, entriesOf}
-use Rattle.steps.specs.Step.{requestOf, requestAt, decidedOf}
+use Rattle.steps.specs.Step.{requestOf}
 use Rattle.local.specs.Table.{filledTo, openedTable}
-use Rattle.walks.specs.Walk.{decidedAt, steppedAt, stepTable, stepHeard, stopped, Walked, ahead, walkFrom, walkAll}
-use Rattle.receive.specs.Taking.{gateAt, tookFrameOf, frameTable, begunOf, tookOf, tookTable}
+use Rattle.walks.specs.Walk.{stopped, Walked, walkFrom, walkAll}
+use Rattle.receive.specs.Taking.{gateAt, begunOf, tookOf, tookTable}
 use Rattle.local.specs.Calling.{callPlace, calledAt, calledTable}
-use Rattle.accounts.specs.History.{Event, looksAt, ruledOf, connAfter, entryAfter, State, answerOf, after, listTo, opened, WasOpened, stateOf, AllAccepted}
+use Rattle.accounts.specs.History.{Event, ruledOf, connAfter, entryAfter, State, answerOf, after, opened, WasOpened, stateOf, AllAccepted}
 use Rattle.accounts.specs.History.Event.{Got as Heard, Did, Gave}
-use Rattle.accounts.proofs.Tests.{and-no, not-both}
-use Rattle.accounts.proofs.Fits.{fits-test}
+use Rattle.accounts.proofs.Tests.{not-both}
+use Rattle.accounts.proofs.Fits.{Fits, fits-test}
 use Rattle.accounts.proofs.Owned.{length-list, list-at, always}
-use Rattle.demands.specs.Hosts.{Host, Act, answered, acted, withConn, withBoth, kept, WasHosted, hosted, stateIn}
+use Rattle.demands.specs.Hosts.{Act, answered, acted, withConn, withBoth, kept, WasHosted, hosted}
 use Rattle.demands.specs.Hosts.Act.{TakeFrame, TakePacket, Make, HandOut}
-use Rattle.demands.specs.Heard.{onto, noted, heardAfter, heardBy}
-use Rattle.demands.proofs.Begins.{Begins, begins}
-use Rattle.demands.proofs.Begins.Begins.{goes, closes, stays}
+use Rattle.demands.specs.Heard.{Run, shownBy, nextShown, ended, oneByOne, framesIn, callsOf, onto, noted, heardAfter, heardBy}
+use Rattle.demands.specs.Packets.{Enters}
+use Rattle.demands.specs.Demand1.{closes, leaves}
+use Rattle.demands.proofs.Frames.{same-table, closed, refusing, decided, shuts, Live, accepted-is, answer-is, acted-is, barred, passed-gate, gate-passes}
+use Rattle.demands.proofs.OneByOne.{is-frames, frames-are, header-refused, entered}
 
 -- ---- states
-
--- closed with a code and a type, and nothing else changed
-abbrev pub closed : State → Answer → ℕ → State
-closed s answer ty = record { conn = markedAs (s .conn) (Code answer ty); table = s .table }
 
 -- the state of a history, or that state closed with a code
 pub data Follows (s : State) : State → Type 0 where
@@ -90,126 +81,71 @@ pub open-same : (s t : State) → Follows s t → isOpen (t .conn .mark) ≡ tru
 open-same s t same e = refl
 open-same s t (shut answer ty) e = impossible cc
 
--- an entry set to itself
-pub same-table : (t : List Entry) (i : ℕ) → set t i (entryAt t i) ≡ t
-same-table t i = set-getD t i (fresh 0)
+-- what is open stands in a row of four
+pub four-of : (o : Limits) (l : List Event) (h : State) → Lifted o l h → length (h .conn .opened) ≡ 4
+four-of o l h w = go h (w .follows)
+  where
+    go : (t : State) → Follows (stateOf o l) t → length (t .conn .opened) ≡ 4
+    go t same = always o l (w .accepted) .conn .four
+    go t (shut answer ty) = always o l (w .accepted) .conn .four
 
 -- ---- one frame
 
--- what holds of 7 and of 10 holds of the code of a reading that was refused
-abbrev pub IfRefused : (Answer → Type 0) → Reading → Type 0
-IfRefused P (Got frame ty next) = Unit
-IfRefused P (Refused answer ty) = P answer
+module _ (o : Limits) (l : List Event) (h : State) (w : Lifted o l h) (s : List ℕ) (at : ℕ) (kind : Kind) where
+  abbrev x : Act
+  x = TakeFrame s at kind
 
-pub refused-with : (P : Answer → Type 0) → P FrameEncoding → P ProtocolViolation → (s : List ℕ) (at : ℕ) (kind : Kind) → IfRefused P (frameAt s at kind)
-refused-with P seven ten s at kind = go (frameAt s at kind) refl
-  where
-    code : (answer : Answer) → (answer ≡ FrameEncoding) ⊎ (answer ≡ ProtocolViolation) → P answer
-    code answer (inl e) = rw e seven
-    code answer (inr e) = rw e ten
+  -- where it passes the gate, what the host keeps is the state of the history, whose table fits
+  module _ (p : isOpen (h .conn .mark) ≡ true) where
+    state-is : h ≡ stateOf o l
+    state-is = open-same _ _ (w .follows) p
 
-    go : (r : Reading) → frameAt s at kind ≡ r → IfRefused P r
-    go (Got frame ty next) e = tt
-    go (Refused answer ty) e = code answer (codes s at kind e)
+    live : Live h
+    live = record { fit = subst (λ (y : State). Fits (y .conn) (y .table)) (sym state-is) (always o l (w .accepted)); still-open = p }
 
--- it does not accept
-abbrev pub Refusing : Reading → Type 0
-Refusing r = IfRefused (λ answer. accepts answer ≡ false) r
+    -- a frame that was accepted is an event, and what is left is the state after it
+    goes-in : (e : Enters h s at kind l) → accepts (answered h x) ≡ true → Lifted o (noted h x l) (acted h x)
+    unfolding AllAccepted stateOf requestOf
+    goes-in e a =
+        let d = ap accepts (sym (answer-is h live s at kind)) ∙ a in
+        let r = accepted-is h live kind at (frameAt s at kind) (refusing s at kind) d in
+        let view : requestOf kind at (frameAt s at kind) .view ≡ viewOf kind (e .frame) = ap (λ (y : Reading). requestOf kind at y .view) (e .reads) in
+        let q : answerOf h (Heard (viewOf kind (e .frame))) ≡ Accepted = ap (λ v. answerOf h (Heard v)) (sym view) ∙ r .0 in
+        let u : acted h x ≡ after h (Heard (viewOf kind (e .frame))) = acted-is h live s at kind ∙ r .1 ∙ ap (λ v. after h (Heard v)) view in
+        subst (λ (m : List Event). Lifted o m (acted h x)) (sym (e .enters))
+        (subst (λ (y : State). Lifted o (Heard (viewOf kind (e .frame)) ∷ l) y) (sym (u ∙ ap (λ (y : State). after y (Heard (viewOf kind (e .frame)))) state-is))
+        (record { accepted = (w .accepted, subst (λ (y : State). answerOf y (Heard (viewOf kind (e .frame))) ≡ Accepted) state-is q); follows = same }))
 
-pub refusing : (s : List ℕ) (at : ℕ) (kind : Kind) → Refusing (frameAt s at kind)
-refusing = refused-with (λ answer. accepts answer ≡ false) refl refl
+    -- one that was refused closes
+    goes-out : accepts (answered h x) ≡ false → Lifted o (noted h x l) (acted h x)
+    goes-out a =
+        let d = ap accepts (sym (answer-is h live s at kind)) ∙ a in
+        subst (λ (m : List Event). Lifted o m (acted h x)) (sym (entered h s at kind l .if-refused a))
+        (subst (λ (y : State). Lifted o l y) (sym (acted-is h live s at kind ∙ shuts h kind at (frameAt s at kind) (refusing s at kind) d ∙ ap (λ (y : State). closed y (decided h kind at (frameAt s at kind) .stepped .answer) (requestOf kind at (frameAt s at kind) .ty)) state-is))
+        (record { accepted = w .accepted; follows = shut _ _ }))
 
--- what a frame leaves of a state, and what is heard of it, by the reading
-module _ (st : State) (kind : Kind) (at : ℕ) where
-  abbrev pub decided : Reading → Decided
-  decided r = decidedOf (st .conn) (entryAt (st .table) (requestOf kind at r .place)) (requestOf kind at r)
-
-  abbrev pub left : Reading → State
-  left r = record { conn = decided r .stepped .conn; table = set (st .table) (requestOf kind at r .place) (decided r .entry) }
-
-  abbrev pub told : Reading → List View
-  told r = accepts (decided r .stepped .answer) ⇒ requestOf kind at r .view ∷ [] ∣ []
-
-  pub more-open : (r : Reading) → decided r .stepped .more ≡ isOpen (decided r .stepped .conn .mark)
-  unfolding decidedOf
-  more-open r = holds (λ (d : Decided). d .stepped .more ≡ isOpen (d .stepped .conn .mark)) (accepts (requestOf kind at r .answer)) _ _ (λ e. refl) (λ e. refl)
-
--- where the table fits and the connection is open, the answer to a frame is the rules'
-ruled-answer : (s : State) (view : View) → fits (s .conn) (s .table) ≡ true → isOpen (s .conn .mark) ≡ true → verdictOf (s .conn) (entryOf (s .table) (streamIn view)) view ≡ Accepted → answerOf s (Heard view) ≡ Accepted
-unfolding answerOf ruledOf
-ruled-answer s view f p e = rw (f, p) e
-
-module _ (o : Limits) (l : List Event) (a : AllAccepted o l) (p : isOpen (stateOf o l .conn .mark) ≡ true) (kind : Kind) (at : ℕ) where
-  abbrev now : State
-  now = stateOf o l
-
-  step : (r : Reading) → Refusing r → Lifted o (onto (told now kind at r) l) (left now kind at r)
-  unfolding onto decidedOf requestOf judgedOf settledOf AllAccepted stateOf after connAfter entryAfter
-  step (Got frame ty next) c = go (accepts (verdictOf (now .conn) (entryOf (now .table) (streamIn (viewOf kind frame))) (viewOf kind frame))) refl
+  pub frame : Lifted o (noted h x l) (acted h x)
+  frame = go (gateAt (h .conn) (h .table) .passes) refl (accepts (answered h x)) refl
     where
-      go : (b : Bool) → accepts (verdictOf (now .conn) (entryOf (now .table) (streamIn (viewOf kind frame))) (viewOf kind frame)) ≡ b → Lifted o (onto (told now kind at (Got frame ty next)) l) (left now kind at (Got frame ty next))
-      go true e = rw e (record { accepted = (a, ruled-answer now (viewOf kind frame) (fits-test _ _ (always o l a)) p (accepts-true _ e)); follows = same })
-      go false e = rw (e, e, same-table (now .table) (placeOf (streamIn (viewOf kind frame)))) (record { accepted = a; follows = shut _ ty })
-  step (Refused answer ty) c = rw (c, c, same-table (now .table) 0) (record { accepted = a; follows = shut answer ty })
+      go : (b : Bool) → gateAt (h .conn) (h .table) .passes ≡ b → (a : Bool) → accepts (answered h x) ≡ a → Lifted o (noted h x l) (acted h x)
+      go true g true a = goes-in (gate-passes _ _ g) (entered h s at kind l .if-accepted a) a
+      go true g false a = goes-out (gate-passes _ _ g) a
+      go false g true a = absurd (not-both _ (passed-gate h s at kind a) g)
+      go false g false a = subst (λ (m : List Event). Lifted o m (acted h x)) (sym (entered h s at kind l .if-refused a)) (subst (λ (y : State). Lifted o l y) (sym (barred h s at kind g .1)) w)
 
-  -- a frame after which the connection is open was accepted, and leaves the state of the longer history
-  goes-on : (r : Reading) → Refusing r → decided now kind at r .stepped .more ≡ true → (AllAccepted o (Heard (requestOf kind at r .view) ∷ l)) × (left now kind at r ≡ stateOf o (Heard (requestOf kind at r .view) ∷ l))
-  unfolding onto decidedOf requestOf judgedOf settledOf AllAccepted stateOf after connAfter entryAfter
-  goes-on (Got frame ty next) c = go (accepts (verdictOf (now .conn) (entryOf (now .table) (streamIn (viewOf kind frame))) (viewOf kind frame))) refl
-    where
-      go : (b : Bool) → accepts (verdictOf (now .conn) (entryOf (now .table) (streamIn (viewOf kind frame))) (viewOf kind frame)) ≡ b → decided now kind at (Got frame ty next) .stepped .more ≡ true
-          → (AllAccepted o (Heard (viewOf kind frame) ∷ l)) × (left now kind at (Got frame ty next) ≡ stateOf o (Heard (viewOf kind frame) ∷ l))
-      go true e = rw e (λ m. ((a, ruled-answer now (viewOf kind frame) (fits-test _ _ (always o l a)) p (accepts-true _ e)), refl))
-      go false e = rw e (λ m. impossible cc)
-  goes-on (Refused answer ty) c = rw c (λ m. impossible cc)
+-- ---- the frames of a packet
 
--- ---- the walk over a payload
-
--- where a walk stopped, as a state
-abbrev pub stateAt : Walked → State
-stateAt w = record { conn = w .stop .conn; table = w .table }
-
-abbrev Walks : Limits → List Event → Walked → Type 0
-Walks o l w = Lifted o (onto (w .heard) l) (stateAt w)
-
--- a frame after which the walk goes on
-record Onward (o : Limits) (l : List Event) (st : State) : Type 0 where
-  accepted : AllAccepted o l
-  state : st ≡ stateOf o l
-  still-open : isOpen (st .conn .mark) ≡ true
-
-onward : (o : Limits) (l : List Event) (st : State) (s : List ℕ) (at : ℕ) (kind : Kind) → Onward o l st → decided st kind at (frameAt s at kind) .stepped .more ≡ true
-    → Onward o (Heard (requestOf kind at (frameAt s at kind) .view) ∷ l) (left st kind at (frameAt s at kind))
-onward o l st s at kind a m =
-    let e = a .state in
-    let g = goes-on o l (a .accepted) (rw e at (a .still-open)) kind at (frameAt s at kind) (refusing s at kind) (rw e at m) in
-    record { accepted = g .0; state = ap (λ (x : State). left x kind at (frameAt s at kind)) e ∙ g .1; still-open = sym (more-open st kind at (frameAt s at kind)) ∙ m }
-
-stops : (o : Limits) (l : List Event) (st : State) (s : List ℕ) (at : ℕ) (kind : Kind) → Onward o l st → Lifted o (onto (told st kind at (frameAt s at kind)) l) (left st kind at (frameAt s at kind))
-stops o l st s at kind a = let e = a .state in rw e (step o l (a .accepted) (rw e at (a .still-open)) kind at (frameAt s at kind) (refusing s at kind))
-
-walks : (k : ℕ) (o : Limits) (l : List Event) (st : State) (s : List ℕ) (at : ℕ) (kind : Kind) → Onward o l st → Walks o l (walkFrom k (st .conn) (st .table) s at kind)
-unfolding walkFrom onto decidedAt requestAt
-walks zero o l st s at kind a = record { accepted = a .accepted; follows = rw (a .state) same }
-walks (suc k) o l st s at kind a =
-    holds (Walks o l) (leb (length s) at) _ _ (λ _. record { accepted = a .accepted; follows = rw (a .state) same }) (λ _.
-    holds (Walks o l) (decided st kind at (frameAt s at kind) .stepped .more) _ _ (λ m. walks k o _ (left st kind at (frameAt s at kind)) s _ kind (onward o l st s at kind a m)) (λ _. stops o l st s at kind a))
-
--- from the end of the bytes on there is nothing to walk
-pub walk-none : (k : ℕ) (c : Conn) (t : List Entry) (s : List ℕ) (kind : Kind) → walkFrom k c t s (length s) kind ≡ record { stop = stopped c (length s) Accepted; table = t; heard = [] }
-unfolding walkFrom
-walk-none zero c t s kind = refl
-walk-none (suc k) c t s kind = rw (le-leb (length s) (length s) (omega arith)) refl
-
--- a packet leaves the connection as its walk does
-pub finish-conn : (begun : Begun) (w : Stopped) (rs : Records) → finishOf begun w rs .conn ≡ w .conn
-unfolding finishOf
-finish-conn begun w rs = go (accepts (begun .answer)) (accepts (w .answer))
-  where
-    go : (a b : Bool) → (a ⇒ (b ⇒ tookAs w Accepted (recordedOf rs (spaceOf (begun .kind)) (begun .number)) ∣ tookAs w (w .answer) rs) ∣ tookAs w (begun .answer) rs) .conn ≡ w .conn
-    go true true = refl
-    go true false = refl
-    go false b = refl
+run : (k : ℕ) (o : Limits) (l : List Event) (h : State) → Lifted o l h → (s : List ℕ) (at : ℕ) (kind : Kind) → Lifted o (heardAfter h (callsOf (oneByOne k h s at kind)) l) (kept h (callsOf (oneByOne k h s at kind)))
+unfolding oneByOne heardAfter kept
+run zero o l h w s at kind = w
+run (suc k) o l h w s at kind =
+    let x = TakeFrame s at kind in
+    let P : Run → Type 0 = λ r. Lifted o (heardAfter h (callsOf r) l) (kept h (callsOf r)) in
+    let Q : Run → Type 0 = λ r. Lifted o (heardAfter (acted h x) (callsOf r) (noted h x l)) (kept (acted h x) (callsOf r)) in
+    let f = frame o l h w s at kind in
+    holds P (leb (length s) at) _ _ (λ e. w) (λ e.
+    holds P (not (accepts (answered h x))) _ _ (λ a. f) (λ a.
+    holds Q (not (isOpen (acted h x .conn .mark))) _ _ (λ p. f) (λ p. run k o (noted h x l) (acted h x) f s (nextShown at (shownBy h s at kind)) kind)))
 
 -- ---- a local call, and a number handed out
 
@@ -246,50 +182,40 @@ gave o l st space false a (shut answer ty) e = rw e (record { accepted = (a, gav
 
 -- ---- the calls
 
-live : (a b : Bool) → a && b ≡ true → b ≡ true
-live true b e = e
-live false b e = impossible cc
-
-module _ (o : Limits) (l : List Event) (h : Host) (a : AllAccepted o l) (f : Follows (stateOf o l) (stateIn h)) where
+module _ (o : Limits) (l : List Event) (h : State) (w : Lifted o l h) where
   abbrev whole : Bool
   whole = fits (h .conn) (h .table)
 
   abbrev Goes : Act → Type 0
-  Goes x = Lifted o (noted h x l) (stateIn (acted h x))
+  Goes x = Lifted o (noted h x l) (acted h x)
 
-  stands : Lifted o l (stateIn h)
-  stands = record { accepted = a; follows = f }
-
-  -- a frame: the gate, then one step
-  frame : (s : List ℕ) (at : ℕ) (kind : Kind) → Goes (TakeFrame s at kind)
-  unfolding tookFrameOf frameTable gateOf decidedAt requestAt
-  frame s at kind = go whole refl (isOpen (h .conn .mark)) refl
+  -- a packet: its frames one by one; or it is refused before them, and closes an open connection or leaves it
+  packet : (rs : Records) (first : ℕ) (s : List ℕ) → Goes (TakePacket rs first s)
+  unfolding onto
+  packet rs first s = go (accepts (begunOf (h .conn) rs (h .table) first s .answer)) refl
     where
-      go : (b : Bool) → whole ≡ b → (d : Bool) → isOpen (h .conn .mark) ≡ d → Goes (TakeFrame s at kind)
-      go false e d g = rw e stands
-      go true e false g = rw (e, g) stands
-      go true e true g =
-          let q = open-same _ _ f g in
-          rw (e, g) (subst (λ (st : State). Lifted o (onto (told st kind at (frameAt s at kind)) l) (left st kind at (frameAt s at kind))) (sym q) (step o l a (subst (λ (st : State). isOpen (st .conn .mark) ≡ true) q g) kind at (frameAt s at kind) (refusing s at kind)))
+      four : length (h .conn .opened) ≡ 4
+      four = four-of o l h w
 
-  -- a packet, by how it began
-  abbrev way : Begun → List ℕ → Walked
-  way begun s = walkAll (begun .conn) (h .table) s (begun .at) (begun .kind)
+      frames : accepts (begunOf (h .conn) rs (h .table) first s .answer) ≡ true → Goes (TakePacket rs first s)
+      frames a =
+          let p = is-frames h rs first s four a in
+          let g = begunOf (h .conn) rs (h .table) first s in
+          let P : State → Type 0 = λ y. Lifted o (noted h (TakePacket rs first s) l) y in
+          subst P (sym (p .state)) (subst (λ (m : List Event). Lifted o m (kept h (callsOf (framesIn h rs first s)))) (sym (p .history l)) (subst (λ (r : Run). Lifted o (heardAfter h (callsOf r) l) (kept h (callsOf r))) (sym (frames-are h rs first s four a)) (run (length s - g .at) o l h w s (g .at) (g .kind))))
 
-  shuts : isOpen (h .conn .mark) ≡ true → Follows (stateOf o l) (closed (stateIn h) ProtocolViolation 0)
-  shuts g = subst (λ (st : State). Follows (stateOf o l) (closed st ProtocolViolation 0)) (sym (open-same _ _ f g)) (shut ProtocolViolation 0)
+      none : (b : Bool) (answer : Answer) → closes answer ≡ b → (closes answer ≡ true → isOpen (h .conn .mark) ≡ true) → Lifted o l (leaves answer 0 h)
+      none true answer k p = rw k (subst (λ (y : State). Lifted o l (closed y answer 0)) (sym (open-same _ _ (w .follows) (p k))) (record { accepted = w .accepted; follows = shut answer 0 }))
+      none false answer k p = rw k w
 
-  begun-goes : (s : List ℕ) (fit : Bool) (begun : Begun) → Begins (h .conn) (length s) (whole && isOpen (h .conn .mark)) fit begun → Walks o l (way begun s)
-  unfolding closesOf refusedOf onto
-  begun-goes s fit _ (goes kind at number e) = let g = live whole _ e in walks (length s - at) o l (stateIn h) s at kind (record { accepted = a; state = open-same _ _ f g; still-open = g })
-  begun-goes s fit _ (closes e) = rw (walk-none (length s - length s) (markedAs (h .conn) (Code ProtocolViolation 0)) (h .table) s OneRtt) (record { accepted = a; follows = shuts (live whole _ e) })
-  begun-goes s fit _ (stays answer q) = rw (walk-none (length s - length s) (h .conn) (h .table) s OneRtt) stands
+      unheard : framesIn h rs first s ≡ ended (length s) → l ≡ noted h (TakePacket rs first s) l
+      unheard e = sym (ap (λ (r : Run). onto (r .heard) l) e)
 
-  packet : (first : ℕ) (s : List ℕ) → Goes (TakePacket first s)
-  unfolding tookOf tookTable
-  packet first s =
-      let begun = begunOf (h .conn) (h .records) (h .table) first s in
-      subst (λ (c : Conn). Lifted o (onto (way begun s .heard) l) (record { conn = c; table = way begun s .table })) (sym (finish-conn begun (way begun s .stop) (h .records))) (begun-goes s _ begun (begins (h .conn) (h .records) whole first s))
+      go : (b : Bool) → accepts (begunOf (h .conn) rs (h .table) first s .answer) ≡ b → Goes (TakePacket rs first s)
+      go true a = frames a
+      go false a =
+          let p = header-refused h rs first s a in
+          subst (λ (m : List Event). Lifted o m (acted h (TakePacket rs first s))) (unheard (p .none)) (subst (λ (y : State). Lifted o l y) (sym (p .left)) (none _ (begunOf (h .conn) rs (h .table) first s .answer) refl (p .was-open)))
 
   -- a local call, by whether the table fits and by what it leaves
   abbrev Calls : Call → Bool → Replied → Type 0
@@ -299,28 +225,28 @@ module _ (o : Limits) (l : List Event) (h : Host) (a : AllAccepted o l) (f : Fol
 
   called : (k : Call) (fit : Bool) → whole ≡ fit → Calls k fit (repliedOf (h .conn) (entryAt (h .table) (callPlace k)) k)
   unfolding repliedOf ruledCall calls.settledOf
-  called k false e = stands
+  called k false e = w
   called k true e =
-      holds (Calls k true) (not (isOpen (h .conn .mark))) _ _ (λ g. rw (same-table (h .table) (callPlace k)) stands) (λ g.
+      holds (Calls k true) (not (isOpen (h .conn .mark))) _ _ (λ g. rw (same-table (h .table) (callPlace k)) w) (λ g.
       holds (Calls k true) (accepts (replyOf (h .conn) (entryAt (h .table) (callPlace k)) k)) _ _
-      (λ x. let p = not-false _ g in did-as o l k (stateIn h) a (open-same _ _ f p) p (accepts-true _ x))
-      (λ x. rw (x, same-table (h .table) (callPlace k)) stands))
+      (λ x. let p = not-false _ g in did-as o l k h (w .accepted) (open-same _ _ (w .follows) p) p (accepts-true _ x))
+      (λ x. rw (x, same-table (h .table) (callPlace k)) w))
 
   call : (k : Call) → Goes (Make k)
   unfolding calledAt calledTable
   call k = called k whole refl
 
   pub goes-by : (x : Act) → Goes x
-  goes-by (TakeFrame s at kind) = frame s at kind
-  goes-by (TakePacket first s) = packet first s
+  goes-by (TakeFrame s at kind) = frame o l h w s at kind
+  goes-by (TakePacket rs first s) = packet rs first s
   goes-by (Make k) = call k
-  goes-by (HandOut space) = gave o l (stateIn h) space _ a f refl
+  goes-by (HandOut space) = gave o l h space _ (w .accepted) (w .follows) refl
 
 -- all calls since
-lift : (o : Limits) (l : List Event) (h : Host) (xs : List Act) → Lifted o l (stateIn h) → Lifted o (heardAfter h xs l) (stateIn (kept h xs))
+lift : (o : Limits) (l : List Event) (h : State) (xs : List Act) → Lifted o l h → Lifted o (heardAfter h xs l) (kept h xs)
 unfolding kept heardAfter
 lift o l h [] a = a
-lift o l h (x ∷ xs) a = lift o _ (acted h x) xs (goes-by o l h (a .accepted) (a .follows) x)
+lift o l h (x ∷ xs) a = lift o _ (acted h x) xs (goes-by o l h a x)
 
 -- ---- opening
 
@@ -343,7 +269,10 @@ module _ (t : List Entry) (o : Limits) where
       go (no p) f = getD-set-other (filledTo n t o) n i e (fresh 0) p ∙ f (omega arith)
 
 -- an opening that was accepted: the table has 192 entries, and the limits are within their ceilings
-module _ (o : Limits) (t : List Entry) (h : WasHosted o t) where
+module _ (o : Limits) (t : List Entry) (w : WasHosted o t) where
+  h : openingWhen (length t) o .answer ≡ Accepted
+  h = w .accepted
+
   facts : (eqb (length t) 192 ≡ true) × (openingWhen (length t) o ≡ openingOf o)
   unfolding openingWhen
   facts = go (eqb (length t) 192) refl h
@@ -378,11 +307,11 @@ module _ (o : Limits) (t : List Entry) (h : WasHosted o t) where
   all-set = rw h refl
 
   -- What the host keeps is the state that opening leaves.
-  pub hosted-same : stateIn (hosted o t) ≡ opened o
+  pub hosted-same : hosted o t ≡ opened o
   unfolding hosted openedTable opened
   hosted-same = λ j. record { conn = (ap (λ (x : Opened). x .conn) (facts .1) ∙ opening-conn) j; table = (ap (λ (n : ℕ). filledTo n t o) all-set ∙ table-same) j }
 
   -- Whatever was called since opening: the accepted frames and calls are a history, and what the host keeps is its state, or that state closed with a code.
-  pub lifted : (xs : List Act) → Lifted o (heardBy o t xs) (stateIn (kept (hosted o t) xs))
+  pub lifted : (xs : List Act) → Lifted o (heardBy o t xs) (kept (hosted o t) xs)
   unfolding AllAccepted stateOf
   lifted xs = lift o [] (hosted o t) xs (record { accepted = was-opened; follows = rw hosted-same same })

@@ -125,9 +125,8 @@ put-other rs Application Application R h = absurd (h refl)
 
 pub number-recorded : NumberRecorded
 unfolding tookOf recordedOf
-number-recorded h first s e =
+number-recorded h rs first s e =
     let c = h .conn in
-    let rs = h .records in
     let g = begunOf c rs (h .table) first s in
     let f = finished g (stoppedOf (g .conn) (h .table) s (g .at) (g .kind)) rs e in
     let R = recordOf rs (spaceOf (g .kind)) in

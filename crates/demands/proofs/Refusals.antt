@@ -1,57 +1,66 @@
--- Demand 1 of the host's calls: a refused frame or header leaves all but the closing mark, a refused packet its records, and any other refused call everything.
--- By the definitions of the calls: a refusal has the connection as it was, marked or not, and sets an entry to itself.
+-- What a refusal leaves, call by call: a frame that the gate lets pass is refused with a code that closes, and one that it does not with 101 or 120, which change nothing;
+-- a packet is its frames one by one; every other call names what it leaves where it names its answer.
 -- Assumes nothing.
-use Prim.Native.Nat.{ℕ, _-_}
+use Prim.Native.Nat.{ℕ, zero, suc, _-_}
 use mathlib.Core.Path.{_≡_, refl, sym, _∙_, ap, subst}
 use mathlib.Core.Bool.{Bool, true, false, not, true≢false}
-use mathlib.Core.List.{List}
-use lib.Dec.{ltb}
+use mathlib.Core.List.{List, [], _∷_, _++_}
+use native.Mathlib.Omega.{arith}
+use lib.Dec.{ltb, leb}
 use lib.ListN.{length, set}
+use borrow.Author.Tests.{not-true, not-false}
 use Rattle.answers.specs.Choice.{_⇒_∣_}
+use Rattle.answers.specs.Answers.{accepts}
 use Rattle.answers.specs.declared.Answer.{Answer}
-use Rattle.answers.specs.declared.Answer.the-variants.{Accepted, ProtocolViolation, DoesNotFit}
+use Rattle.answers.specs.declared.Answer.the-variants.{Accepted, DoesNotFit}
+use Rattle.answers.proofs.Accepts.{accepts-true}
 use Rattle.answers.proofs.Choice.{holds}
+use Rattle.answers.proofs.Distinct.{impossible}
+use Rattle.wire.specs.Number.{numberAt, withNumber}
+use Rattle.wire.specs.Writing.{Draft, writes, numberDraft}
+use Rattle.wire.specs.declared.Number.{Number}
+use Rattle.wire.specs.declared.Wrote.{Wrote}
+use Rattle.wire.specs.declared.Wrote.the-variants as Wrote'
+use Rattle.wire.proofs.Forms as forms
+use Rattle.wire.proofs.Writing as writing
+use Rattle.row.specs.Row.{rowDraft}
 use Rattle.frames.specs.declared.Kind.{Kind}
-use Rattle.frames.specs.declared.Kind.the-variants.{OneRtt}
-use Rattle.frames.specs.declared.Reading.{Reading}
-use Rattle.frames.specs.declared.Reading.the-variants.{Got, Refused}
 use Rattle.frames.specs.Reading.{frameAt}
+use Rattle.contents.specs.Content.{contents}
+use Rattle.sizes.specs.Spelled.{frameDraft}
+use Rattle.records.specs.declared.Record.{Record}
+use Rattle.records.specs.Ring.{takenOf}
+use Rattle.records.proofs.Taking as taking
+use Rattle.acks.specs.Ack.{ackDraft}
 use Rattle.streams.specs.declared.Called.{Called}
 use Rattle.streams.specs.declared.Conn.{Conn}
 use Rattle.entries.specs.declared.Entry.{Entry}
-use Rattle.verdicts.specs.declared.Judged.{Judged}
-use Rattle.streams.specs.declared.Mark.the-variants.{Code}
+use Rattle.streams.specs.declared.Limits.{Limits}
 use Rattle.streams.specs.declared.Space.{Space}
-use Rattle.halves.specs.Stream.{placeOf}
-use Rattle.entries.specs.Entry.{entryAt, entryOf, mostCredit}
-use Rattle.streams.specs.Conn.{isOpen, markedAs, nextOf, handedOutOf}
-use Rattle.answers.specs.Answers.{accepts}
-use Rattle.views.specs.View.{viewOf, streamIn, framePlace}
-use Rattle.verdicts.specs.Verdict.{verdictOf, settledOf, judgedOf}
+use Rattle.entries.specs.Entry.{entryAt, mostCredit}
+use Rattle.streams.specs.Conn.{isOpen, nextOf, handedOutOf, spaceOf}
+use Rattle.opening.specs.Opening.{openingWhen, entriesOf}
 use Rattle.calls.specs.declared.Call.{Call}
 use Rattle.calls.specs.declared.Replied.{Replied}
 use Rattle.calls.specs.Calls as calls
 use Rattle.calls.specs.Calls.{replyOf, ruledOf, repliedOf}
 use Rattle.limits.specs.Fits.{fits}
-use Rattle.packets.specs.declared.Begun.{Begun}
-use Rattle.steps.specs.declared.Shown.{Shown}
-use Rattle.steps.specs.declared.Shown.the-variants.{Nothing}
 use Rattle.spaces.specs.declared.Records.{Records}
-use Rattle.steps.specs.declared.Stopped.{Stopped}
-use Rattle.endings.specs.declared.Took.{Took}
+use Rattle.spaces.specs.Spaces.{recordedOf}
 use Rattle.steps.specs.declared.TookFrame.{TookFrame}
-use Rattle.steps.specs.Step.{requestOf, requestAt, decidedOf, shownAt}
-use Rattle.packets.specs.Begin as begin
-use Rattle.endings.specs.Finish.{tookAs, finishOf}
-use Rattle.walks.specs.Walk.{decidedAt, Walked, walkAll}
+use Rattle.steps.specs.Step.{requestOf}
+use Rattle.local.specs.Table.{filledTo, openedTable}
 use Rattle.local.specs.Calling.{callPlace, calledAt, calledTable}
-use Rattle.receive.specs.Taking.{gateAt, tookFrameOf, frameTable, begunOf, tookOf, tookTable}
-use Rattle.demands.specs.Hosts.{Host, withConn, withBoth, stateIn}
-use Rattle.demands.specs.Demand1.{Left, Demand1}
-use Rattle.demands.specs.Demand1.Left.{same, shut}
-use Rattle.demands.proofs.Begins.{Begins, begins}
-use Rattle.demands.proofs.Begins.Begins.{goes, closes, stays}
-use Rattle.demands.proofs.Lifted.{Refusing, refusing, same-table, decided, left, walk-none}
+use Rattle.receive.specs.Taking.{gateAt, begunOf}
+use Rattle.accounts.specs.History.{State}
+use Rattle.accounts.proofs.Tests.{not-both}
+use Rattle.demands.specs.Hosts.{Act, answered, acted, withConn, withBoth, recordsAfter, placeTold, kept}
+use Rattle.demands.specs.Hosts.Act.{TakeFrame, TakePacket, Make, HandOut}
+use Rattle.demands.specs.Heard.{Run, ended, after, asked, nextShown, shownBy, oneByOne, framesIn, callsOf}
+use Rattle.demands.specs.Demand1.{Asked, wroteAnswer, answerTo, closes, leaves, typeAt, Left, Demand1}
+use Rattle.demands.specs.Demand1.Asked.{OfHost, Open, RecordNumber, WriteNumber, WriteRow, WriteFrame, Acknowledge}
+use Rattle.demands.proofs.Frames.{same-table, closed, refused-with, refusing, Codes, decided, left, decided-with, shuts, gate-quiet, took-is, left-is, barred, type-is}
+use Rattle.demands.proofs.OneByOne.{is-frames, frames-are, header-refused}
 
 -- an acceptance is no refusal
 none : {G : Type 0} → accepts Accepted ≡ false → G
@@ -59,65 +68,82 @@ none e = absurd (true≢false e)
 
 -- ---- a frame
 
-module _ (h : Host) (kind : Kind) (at : ℕ) where
-  abbrev after : Reading → Host
-  after r = withBoth h (decided (stateIn h) kind at r .stepped .conn) (left (stateIn h) kind at r .table)
+-- every code of a frame that does not accept closes
+abbrev Closing : Answer → Type 0
+Closing answer = accepts answer ≡ false → closes answer ≡ true
 
-  decided-left : (r : Reading) → Refusing r → accepts (decided (stateIn h) kind at r .stepped .answer) ≡ false → Left h (decided (stateIn h) kind at r .stepped .answer) (requestOf kind at r .ty) (after r)
-  unfolding decidedOf requestOf judgedOf settledOf
-  decided-left (Got frame ty next) c = go (accepts (verdictOf (h .conn) e (viewOf kind frame))) refl
-    where
-      e : Entry
-      e = entryOf (h .table) (streamIn (viewOf kind frame))
+closing-codes : Codes Closing
+closing-codes = record { accepted = none; flow = λ e. refl; limit = λ e. refl; state = λ e. refl; size = λ e. refl; encoding = λ e. refl; violation = λ e. refl }
 
-      go : (b : Bool) → accepts (verdictOf (h .conn) e (viewOf kind frame)) ≡ b → accepts (decided (stateIn h) kind at (Got frame ty next) .stepped .answer) ≡ false
-          → Left h (decided (stateIn h) kind at (Got frame ty next) .stepped .answer) ty (after (Got frame ty next))
-      go true d = rw d none
-      go false d = rw (d, same-table (h .table) (framePlace (viewOf kind frame))) (λ f. shut)
-  decided-left (Refused answer ty) c = rw (c, same-table (h .table) 0) (λ f. shut)
+-- what is left, by whether the answer closes
+leaves-shut : (h : State) (answer : Answer) (ty : ℕ) → closes answer ≡ true → closed h answer ty ≡ leaves answer ty h
+leaves-shut h answer ty k = rw k refl
 
-  -- what passes the gate, and what does not
-  abbrev judged : Shown → Reading → TookFrame
-  judged shown r = record { answer = decided (stateIn h) kind at r .stepped .answer; shown = shown; conn = decided (stateIn h) kind at r .stepped .conn }
+leaves-same : (h : State) (answer : Answer) (ty : ℕ) → closes answer ≡ false → h ≡ leaves answer ty h
+leaves-same h answer ty k = rw k refl
 
-  abbrev barred : Answer → TookFrame
-  barred answer = record { answer = answer; shown = Nothing; conn = h .conn }
+frame-left : (h : State) (s : List ℕ) (at : ℕ) (kind : Kind) → accepts (answered h (TakeFrame s at kind)) ≡ false → acted h (TakeFrame s at kind) ≡ leaves (answered h (TakeFrame s at kind)) (typeAt s at) h
+frame-left h s at kind e = go (gateAt (h .conn) (h .table) .passes) refl
+  where
+    answer : Answer
+    answer = decided h kind at (frameAt s at kind) .stepped .answer
 
-  frame-left : (b : Bool) (shown : Shown) (answer : Answer) (r : Reading) → Refusing r → accepts ((b ⇒ judged shown r ∣ barred answer) .answer) ≡ false
-      → Left h ((b ⇒ judged shown r ∣ barred answer) .answer) (requestOf kind at r .ty) (withBoth h ((b ⇒ judged shown r ∣ barred answer) .conn) (b ⇒ left (stateIn h) kind at r .table ∣ h .table))
-  frame-left true shown answer r c e = decided-left r c e
-  frame-left false shown answer r c e = same
+    go : (b : Bool) → gateAt (h .conn) (h .table) .passes ≡ b → acted h (TakeFrame s at kind) ≡ leaves (answered h (TakeFrame s at kind)) (typeAt s at) h
+    go true g =
+        let t = ap (λ (x : TookFrame). x .answer) (took-is h s at kind g) in
+        let refused = ap accepts (sym t) ∙ e in
+        let k = decided-with h kind at Closing closing-codes (frameAt s at kind) (refused-with Closing (λ d. refl) (λ d. refl) s at kind) refused in
+        left-is h s at kind g ∙ shuts h kind at (frameAt s at kind) (refusing s at kind) refused
+        ∙ ap (closed h answer) (type-is s at kind) ∙ leaves-shut h answer (typeAt s at) k ∙ ap (λ (x : Answer). leaves x (typeAt s at) h) (sym t)
+    go false g =
+        let b = barred h s at kind g in
+        b .1 ∙ leaves-same h (gateAt (h .conn) (h .table) .answer) (typeAt s at) (gate-quiet (fits (h .conn) (h .table)) (h .conn .mark) g) ∙ ap (λ (x : Answer). leaves x (typeAt s at) h) (sym (b .0))
 
 -- ---- a packet
 
-finish-refused : (begun : Begun) (w : Stopped) (rs : Records) → accepts (begun .answer) ≡ false → finishOf begun w rs ≡ tookAs w (begun .answer) rs
-unfolding finishOf
-finish-refused begun w rs e = rw e
+-- the frames before the refused one stay applied, and it closes what they left
+run-left : (k : ℕ) (h : State) (s : List ℕ) (at : ℕ) (kind : Kind) → accepts (oneByOne k h s at kind .answer) ≡ false
+    → kept h (callsOf (oneByOne k h s at kind)) ≡ leaves (oneByOne k h s at kind .answer) (typeAt s (oneByOne k h s at kind .place)) (kept h (oneByOne k h s at kind .accepted))
+unfolding oneByOne kept
+run-left zero h s at kind = none
+run-left (suc k) h s at kind =
+    let x = TakeFrame s at kind in
+    holds (Run-left h s) (leb (length s) at) _ _ (λ e. none) (λ e.
+    holds (Run-left h s) (not (accepts (answered h x))) _ _ (λ a. frame-left h s at kind) (λ a.
+    holds (Run-left (acted h x) s) (not (isOpen (acted h x .conn .mark))) _ _ (λ o. none) (λ o. run-left k (acted h x) s (nextShown at (shownBy h s at kind)) kind)))
+  where
+    Run-left : State → List ℕ → Run → Type 0
+    Run-left h s r = accepts (r .answer) ≡ false → kept h (callsOf r) ≡ leaves (r .answer) (typeAt s (r .place)) (kept h (r .accepted))
 
-abbrev Unrecorded : Records → Took → Type 0
-Unrecorded rs x = accepts (x .answer) ≡ false → x .records ≡ rs
+no-type : (s : List ℕ) → typeAt s (length s) ≡ 0
+no-type s = ap (λ (n : Number). withNumber n 0 (λ ty next. ty)) (forms.past s (length s) (omega arith))
 
-finish-unrecorded : (begun : Begun) (w : Stopped) (rs : Records) → Unrecorded rs (finishOf begun w rs)
-unfolding finishOf
-finish-unrecorded begun w rs =
-    holds (Unrecorded rs) (accepts (begun .answer)) _ _ (λ a.
-    holds (Unrecorded rs) (accepts (w .answer)) _ _ (λ b. none) (λ b e. refl)) (λ a e. refl)
+packet-left : (h : State) (rs : Records) (first : ℕ) (s : List ℕ) → length (h .conn .opened) ≡ 4 → accepts (answered h (TakePacket rs first s)) ≡ false → Left (OfHost h (TakePacket rs first s))
+unfolding kept
+packet-left h rs first s four e = go (accepts (begunOf (h .conn) rs (h .table) first s .answer)) refl
+  where
+    whole : accepts (begunOf (h .conn) rs (h .table) first s .answer) ≡ true → Left (OfHost h (TakePacket rs first s))
+    whole a =
+        let p = is-frames h rs first s four a in
+        let f = frames-are h rs first s four a in
+        let g = begunOf (h .conn) rs (h .table) first s in
+        let r = framesIn h rs first s in
+        let refused = ap accepts (sym (p .answer)) ∙ e in
+        let P : Run → Type 0 = λ q. accepts (q .answer) ≡ false → kept h (callsOf q) ≡ leaves (q .answer) (typeAt s (q .place)) (kept h (q .accepted)) in (
+          p .state ∙ subst P (sym f) (run-left (length s - g .at) h s (g .at) (g .kind)) refused ∙ (λ j. leaves (sym (p .answer) j) (typeAt s (sym (p .place) j)) (kept h (r .accepted))),
+          p .records ∙ ap (λ (b : Bool). b ⇒ recordedOf rs (spaceOf (g .kind)) (g .number) ∣ rs) refused,
+        )
 
-module _ (h : Host) (s : List ℕ) where
-  abbrev way : Begun → Walked
-  way begun = walkAll (begun .conn) (h .table) s (begun .at) (begun .kind)
+    header : accepts (begunOf (h .conn) rs (h .table) first s .answer) ≡ false → Left (OfHost h (TakePacket rs first s))
+    header a =
+        let p = header-refused h rs first s a in
+        let same : h ≡ kept h (framesIn h rs first s .accepted) = sym (ap (λ (r : Run). kept h (r .accepted)) (p .none)) in
+        let ty : 0 ≡ typeAt s (placeTold h rs first s) = sym (ap (typeAt s) (p .place) ∙ no-type s) in
+        (p .left ∙ (λ j. leaves (sym (p .answer) j) (ty j) (same j)), p .records)
 
-  begun-left : (live fit : Bool) (begun : Begun) → Begins (h .conn) (length s) live fit begun → accepts (begun .answer) ≡ false → Left h (begun .answer) 0 (withBoth h (way begun .stop .conn) (way begun .table))
-  unfolding begin.closesOf begin.refusedOf
-  begun-left live fit _ (goes kind at number e) = none
-  begun-left live fit _ (closes e) = rw (walk-none (length s - length s) (markedAs (h .conn) (Code ProtocolViolation 0)) (h .table) s OneRtt) (λ d. shut)
-  begun-left live fit _ (stays answer q) = rw (walk-none (length s - length s) (h .conn) (h .table) s OneRtt) (λ d. same)
-
-  abbrev ends : Begun → Took → Type 0
-  ends begun x = Left h (x .answer) 0 (record { conn = x .conn; table = way begun .table; records = x .records })
-
-  header-left : (live fit : Bool) (begun : Begun) → Begins (h .conn) (length s) live fit begun → accepts (begun .answer) ≡ false → ends begun (finishOf begun (way begun .stop) (h .records))
-  header-left live fit begun b e = subst (ends begun) (sym (finish-refused begun (way begun .stop) (h .records) e)) (begun-left live fit begun b e)
+    go : (b : Bool) → accepts (begunOf (h .conn) rs (h .table) first s .answer) ≡ b → Left (OfHost h (TakePacket rs first s))
+    go true a = whole a
+    go false a = header a
 
 -- ---- the other calls
 
@@ -125,7 +151,7 @@ handed-left : (c : Conn) (space : Space) → accepts (handedOutOf c space .answe
 unfolding handedOutOf
 handed-left c space = holds (λ (x : Called). accepts (x .answer) ≡ false → x .conn ≡ c) (ltb mostCredit (nextOf c space)) _ _ (λ a e. refl) (λ a. none)
 
-module _ (h : Host) (k : Call) where
+module _ (h : State) (k : Call) where
   -- a refused call leaves the connection and the entry
   abbrev Leaves : Replied → Type 0
   Leaves r = accepts (r .called .answer) ≡ false → (r .called .conn ≡ h .conn) × (r .entry ≡ entryAt (h .table) (callPlace k))
@@ -140,19 +166,39 @@ module _ (h : Host) (k : Call) where
   called fit r = fit ⇒ r .called ∣ record { answer = DoesNotFit; number = 0; conn = h .conn }
 
   -- the entry is set to itself
-  call-left : (fit : Bool) (r : Replied) → Leaves r → accepts (called fit r .answer) ≡ false → withBoth h (called fit r .conn) (fit ⇒ set (h .table) (callPlace k) (r .entry) ∣ h .table) ≡ h
+  call-left : (fit : Bool) (r : Replied) → Leaves r → accepts (called fit r .answer) ≡ false → withBoth (called fit r .conn) (fit ⇒ set (h .table) (callPlace k) (r .entry) ∣ h .table) ≡ h
   call-left true r f e =
       let g = f e in
-      ap (λ (c : Conn). withBoth h c (set (h .table) (callPlace k) (r .entry))) (g .0)
-      ∙ ap (λ (x : Entry). withBoth h (h .conn) (set (h .table) (callPlace k) x)) (g .1) ∙ ap (withBoth h (h .conn)) (same-table (h .table) (callPlace k))
+      ap (λ (c : Conn). withBoth c (set (h .table) (callPlace k) (r .entry))) (g .0)
+      ∙ ap (λ (x : Entry). withBoth (h .conn) (set (h .table) (callPlace k) x)) (g .1) ∙ ap (withBoth (h .conn)) (same-table (h .table) (callPlace k))
   call-left false r f e = refl
 
-pub demand1 : (h : Host) → Demand1 h
-unfolding tookFrameOf frameTable decidedAt requestAt tookOf tookTable calledAt calledTable
-demand1 h = record {
-  frame = λ s at kind. frame-left h kind at (gateAt (h .conn) (h .table) .passes) (shownAt s at kind) (gateAt (h .conn) (h .table) .answer) (frameAt s at kind) (refusing s at kind);
-  header = λ first s. header-left h s _ _ (begunOf (h .conn) (h .records) (h .table) first s) (begins (h .conn) (h .records) (fits (h .conn) (h .table)) first s);
-  unrecorded = λ first s. finish-unrecorded _ _ (h .records);
-  call = λ k. call-left h k (fits (h .conn) (h .table)) _ (replied-left h k);
-  hand-out = λ space e. ap (withConn h) (handed-left (h .conn) space e);
-}
+-- ---- opening, recording, writing
+
+open-left : (t : List Entry) (o : Limits) → accepts (openingWhen (length t) o .answer) ≡ false → openedTable t o ≡ t
+unfolding openedTable entriesOf filledTo
+open-left t o e = rw e refl
+
+taken-left : (R : Record) (n : ℕ) → accepts (takenOf R n .answer) ≡ false → takenOf R n .«record» ≡ R
+taken-left R n e = taking.leaves R n (λ a. not-both _ (ap accepts a) e)
+
+-- whatever is written
+written-left : (d : Draft) (out : List ℕ) (at : ℕ) → accepts (wroteAnswer (writes d out at .0)) ≡ false → writes d out at .1 ≡ out
+written-left d out at e = go (writes d out at .0) refl e
+  where
+    go : (r : Wrote) → writes d out at .0 ≡ r → accepts (wroteAnswer r) ≡ false → writes d out at .1 ≡ out
+    go (Wrote'.To n) p = none
+    go (Wrote'.Refused answer) p = λ f. writing.refused d out at {r = writes d out at .0} {after = writes d out at .1} refl p
+
+pub demand1 : Demand1
+unfolding calledAt calledTable
+demand1 (OfHost h (TakeFrame s at kind)) four = frame-left h s at kind
+demand1 (OfHost h (TakePacket rs first s)) four = packet-left h rs first s four
+demand1 (OfHost h (Make k)) four = call-left h k (fits (h .conn) (h .table)) _ (replied-left h k)
+demand1 (OfHost h (HandOut space)) four = λ e. ap (withConn h) (handed-left (h .conn) space e)
+demand1 (Open t o) u = open-left t o
+demand1 (RecordNumber R n) u = taken-left R n
+demand1 (WriteNumber v out at) u = written-left (numberDraft v) out at
+demand1 (WriteRow vs out at) u = written-left (rowDraft vs) out at
+demand1 (WriteFrame s f out at) u = written-left (frameDraft (contents s f)) out at
+demand1 (Acknowledge R delay out at) u = written-left (ackDraft R delay) out at

@@ -1,72 +1,80 @@
 -- Demand 3, in the host's terms: of every opening that was accepted on a lent table, and of whatever calls came since, packets and refused calls included.
-use Prim.Native.Nat.{ℕ, _≤_}
+-- Limits and counts are those of the history too: of what opening advertised and what accepted calls raised (accounts `Advertised`), not what the connection holds, which is shown to be the same.
+use Prim.Native.Nat.{ℕ, _+_, _≤_, _<_}
 use mathlib.Core.Path.{_≡_}
 use mathlib.Core.Bool.{Bool, true, false}
 use mathlib.Core.List.{List, [], _∷_, _++_}
 use Rattle.answers.specs.declared.Answer.the-variants.{DoesNotFit}
 use Rattle.frames.specs.declared.Kind.{Kind}
-use Rattle.frames.specs.declared.Frame.{Frame}
+use Rattle.frames.specs.declared.Frame.the-variants.{Stream, ResetStream}
 use Rattle.frames.specs.declared.Reading.the-variants.{Got}
 use Rattle.frames.specs.Reading.{frameAt}
 use Rattle.entries.specs.declared.Entry.{Entry}
 use Rattle.streams.specs.declared.Limits.{Limits}
 use Rattle.streams.specs.declared.Mark.the-variants.{Open}
+use Rattle.streams.specs.declared.Space.{Space}
 use Rattle.halves.specs.Stream.{halfOf, listed}
-use Rattle.entries.specs.Entry.{entryOf}
-use Rattle.streams.specs.Conn.{countOf}
-use Rattle.views.specs.declared.View.the-variants.{Ends}
-use Rattle.views.specs.View.{viewOf}
+use Rattle.entries.specs.Entry.{finalOf, entryOf}
+use Rattle.streams.specs.Conn.{openedOf, countOf, nextOf}
 use Rattle.rules.specs.Rules.{rule5}
 use Rattle.limits.specs.Fits.{sumTo}
-use Rattle.receive.specs.Taking.{begunOf}
-use Rattle.accounts.specs.History.{own, furthest, creditOf, maySend, granted, ruling}
-use Rattle.demands.specs.Hosts.{Act, answered, WasHosted, hostAfter, stateIn}
-use Rattle.demands.specs.Hosts.Act.{TakeFrame, TakePacket}
-use Rattle.demands.specs.Heard.{onto, heardBy, framesOf}
+use Rattle.spaces.specs.Spaces.{recordsFit}
+use Rattle.accounts.specs.History.{own, furthest, finalNamed, ruling}
+use Rattle.accounts.specs.Advertised.{creditBy, streamCreditBy, countBy, openBy, nextBy, maySendBy, grantedBy}
+use Rattle.demands.specs.Hosts.{Act, answered, WasHosted, hostAfter}
+use Rattle.demands.specs.Hosts.Act.{TakeFrame, TakePacket, Make, HandOut}
+use Rattle.demands.specs.Heard.{heardBy}
 
--- the bytes at a place of a packet of this kind are an admitted, well-formed STREAM or RESET_STREAM frame of the stream, with this end, final or not
-pub record Names (s : List ℕ) (at : ℕ) (kind : Kind) (id end : ℕ) (fin : Bool) : Type 0 where
-  pub frame : Frame
-  pub ty : ℕ
-  pub next : ℕ
-  pub reads : frameAt s at kind ≡ Got frame ty next
-  pub ends : viewOf kind frame ≡ Ends id end fin
+-- the bytes at a place of a packet of this kind are an admitted, well-formed STREAM or RESET_STREAM frame of the stream, with this end, final or not: "STREAM with end = offset + length", "RESET_STREAM: the same, its final size taken as an end with FIN"
+pub data Names (s : List ℕ) (at : ℕ) (kind : Kind) (id : ℕ) : ℕ → Bool → Type 0 where
+  stream : (offset len : ℕ) (fin : Bool) (place ty next : ℕ) → frameAt s at kind ≡ Got (Stream id offset fin place len) ty next → Names s at kind id (offset + len) fin
+  reset : (code size ty next : ℕ) → frameAt s at kind ≡ Got (ResetStream id code size) ty next → Names s at kind id size true
 
 -- "while the connection is open", and "When the connection credit is at least the sum of the credits of all streams on which the peer may send, ended ones included"
 pub record Enough (o : Limits) (t : List Entry) (xs : List Act) : Type 0 where
   pub was-hosted : WasHosted o t
   pub still-open : hostAfter o t xs .conn .mark ≡ Open
-  pub for-all : granted (stateIn (hostAfter o t xs)) ≤ hostAfter o t xs .conn .limits .credit
+  pub for-all : grantedBy o (heardBy o t xs) ≤ creditBy o (heardBy o t xs)
+
+-- the records that come with a call fit; those of a host that keeps what packets hand back always do
+abbrev pub Fitted : Act → Type 0
+Fitted (TakeFrame s at kind) = Unit
+Fitted (TakePacket rs first s) = recordsFit rs ≡ true
+Fitted (Make call) = Unit
+Fitted (HandOut space) = Unit
 
 pub record Demand3 (o : Limits) (t : List Entry) (xs : List Act) : Type 0 where
   -- "the counted total is the sum, over streams, of the furthest end or final size that an accepted frame named"
   pub total-is-sum : (n : ℕ) → 256 ≤ n → hostAfter o t xs .conn .total ≡ sumTo n (furthest (heardBy o t xs))
   pub none-left-out : (id : ℕ) → 256 ≤ id → furthest (heardBy o t xs) id ≡ 0
   pub each-end : (id : ℕ) → listed id ≡ true → entryOf (hostAfter o t xs .table) id .end ≡ furthest (heardBy o t xs) id
+  pub each-size : (id : ℕ) → listed id ≡ true → finalOf (entryOf (hostAfter o t xs .table) id .size) ≡ finalNamed (own (heardBy o t xs) id)
+  -- the limits that the connection and the table hold are those of opening and of the accepted calls, and so are the initial credits, what is open and the numbers handed out
+  pub credit-is : hostAfter o t xs .conn .limits .credit ≡ creditBy o (heardBy o t xs)
+  pub each-credit : (id : ℕ) → listed id ≡ true → entryOf (hostAfter o t xs .table) id .credit ≡ streamCreditBy o (heardBy o t xs) id
+  pub each-count : (half : ℕ) → half < 4 → countOf (hostAfter o t xs .conn) half ≡ countBy o (heardBy o t xs) half
+  pub initial-is : hostAfter o t xs .conn .limits .initial ≡ o .initial
+  pub each-open : (half : ℕ) → half < 4 → openedOf (hostAfter o t xs .conn) half ≡ openBy (heardBy o t xs) half
+  pub each-next : (space : Space) → nextOf (hostAfter o t xs .conn) space ≡ nextBy (heardBy o t xs) space
   -- "It never exceeds the connection credit, nor any stream its own credit"
-  pub total-within : hostAfter o t xs .conn .total ≤ hostAfter o t xs .conn .limits .credit
-  pub each-within : (id : ℕ) → furthest (heardBy o t xs) id ≤ creditOf (stateIn (hostAfter o t xs)) id
+  pub total-within : hostAfter o t xs .conn .total ≤ creditBy o (heardBy o t xs)
+  pub each-within : (id : ℕ) → furthest (heardBy o t xs) id ≤ streamCreditBy o (heardBy o t xs) id
   -- 120 never comes of our own calls
-  pub never-unfit : (x : Act) → answered (hostAfter o t xs) x ≡ DoesNotFit → ⊥
+  pub never-unfit : (x : Act) → Fitted x → answered (hostAfter o t xs) x ≡ DoesNotFit → ⊥
   -- "the verdict on the next admitted, well-formed STREAM or RESET_STREAM frame depends, beside the frame, only on that stream's own accepted frames, its credit and the stream count for its type"
   pub verdict : Enough o t xs → (s : List ℕ) (at : ℕ) (kind : Kind) (id end : ℕ) (fin : Bool) → Names s at kind id end fin
-      → answered (hostAfter o t xs) (TakeFrame s at kind) ≡ ruling (countOf (hostAfter o t xs .conn) (halfOf id)) (creditOf (stateIn (hostAfter o t xs)) id) (own (heardBy o t xs) id) id end fin
+      → answered (hostAfter o t xs) (TakeFrame s at kind) ≡ ruling (countBy o (heardBy o t xs) (halfOf id)) (streamCreditBy o (heardBy o t xs) id) (own (heardBy o t xs) id) id end fin
   -- "a stream that keeps to its own limits never suffers for its neighbours": rule 5 does not refuse it
-  pub no-neighbour : Enough o t xs → (id end : ℕ) → maySend (hostAfter o t xs .conn) id ≡ true → end ≤ creditOf (stateIn (hostAfter o t xs)) id
-      → rule5 (hostAfter o t xs .conn .limits .credit) (hostAfter o t xs .conn .total) (entryOf (hostAfter o t xs .table) id .end) end ≡ false
+  pub no-neighbour : Enough o t xs → (id end : ℕ) → maySendBy o (heardBy o t xs) id ≡ true → end ≤ streamCreditBy o (heardBy o t xs) id
+      → rule5 (creditBy o (heardBy o t xs)) (sumTo 256 (furthest (heardBy o t xs))) (furthest (heardBy o t xs) id) end ≡ false
 
 -- what the verdict depends on beside the frame is the same of two connections, however each came about
 pub record SameOwn (o p : Limits) (t u : List Entry) (xs ys : List Act) (id : ℕ) : Type 0 where
   pub own-frames : own (heardBy o t xs) id ≡ own (heardBy p u ys) id
-  pub credit : creditOf (stateIn (hostAfter o t xs)) id ≡ creditOf (stateIn (hostAfter p u ys)) id
-  pub count : countOf (hostAfter o t xs .conn) (halfOf id) ≡ countOf (hostAfter p u ys .conn) (halfOf id)
+  pub credit : streamCreditBy o (heardBy o t xs) id ≡ streamCreditBy p (heardBy p u ys) id
+  pub count : countBy o (heardBy o t xs) (halfOf id) ≡ countBy p (heardBy p u ys) (halfOf id)
 
 abbrev pub Independence : Type 0
 Independence = (o p : Limits) (t u : List Entry) (xs ys : List Act) (id : ℕ) → Enough o t xs → Enough p u ys → SameOwn o p t u xs ys id
     → (r s : List ℕ) (at place : ℕ) (kind form : Kind) (end : ℕ) (fin : Bool) → Names r at kind id end fin → Names s place form id end fin
     → answered (hostAfter o t xs) (TakeFrame r at kind) ≡ answered (hostAfter p u ys) (TakeFrame s place form)
-
--- "over all accepted frames": a packet that leaves the connection open had every one of its frames accepted, and all of them are in the history; none is waved through
-abbrev pub NoneWaved : Type 0
-NoneWaved = (o : Limits) (t : List Entry) (xs : List Act) (first : ℕ) (s : List ℕ) → WasHosted o t → hostAfter o t (xs ++ TakePacket first s ∷ []) .conn .mark ≡ Open
-    → heardBy o t (xs ++ TakePacket first s ∷ []) ≡ onto (framesOf (begunOf (hostAfter o t xs .conn) (hostAfter o t xs .records) (hostAfter o t xs .table) first s) s) (heardBy o t xs)

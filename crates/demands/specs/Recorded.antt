@@ -8,25 +8,27 @@ use Rattle.answers.specs.declared.Answer.the-variants.{Accepted}
 use Rattle.records.specs.Marks.{recorded}
 use Rattle.streams.specs.declared.Space.{Space}
 use Rattle.streams.specs.Conn.{spaceOf}
+use Rattle.spaces.specs.declared.Records.{Records}
 use Rattle.spaces.specs.Spaces.{recordOf}
 use Rattle.receive.specs.Taking.{begunOf}
-use Rattle.demands.specs.Hosts.{Host, answered, acted}
+use Rattle.accounts.specs.History.{State}
+use Rattle.demands.specs.Hosts.{answered, recordsAfter}
 use Rattle.demands.specs.Hosts.Act.{TakePacket}
 
 -- the packet's number and space, as the checks before its frames found them
-abbrev pub numberIn : Host → ℕ → List ℕ → ℕ
-numberIn h first s = begunOf (h .conn) (h .records) (h .table) first s .number
+abbrev pub numberIn : State → Records → ℕ → List ℕ → ℕ
+numberIn h rs first s = begunOf (h .conn) rs (h .table) first s .number
 
-abbrev pub spaceIn : Host → ℕ → List ℕ → Space
-spaceIn h first s = spaceOf (begunOf (h .conn) (h .records) (h .table) first s .kind)
+abbrev pub spaceIn : State → Records → ℕ → List ℕ → Space
+spaceIn h rs first s = spaceOf (begunOf (h .conn) rs (h .table) first s .kind)
 
-pub record Recorded (h : Host) (first : ℕ) (s : List ℕ) : Type 0 where
+pub record Recorded (h : State) (rs : Records) (first : ℕ) (s : List ℕ) : Type 0 where
   -- the space's record has the number, beside what it had, as far as the window of 8,192 still holds it
   pub own : (m : ℕ)
-      → recorded (recordOf (acted h (TakePacket first s) .records) (spaceIn h first s)) m
-      ≡ (leb (max (recordOf (h .records) (spaceIn h first s) .top) (numberIn h first s + 1)) (m + 8192) && (eqb m (numberIn h first s) || recorded (recordOf (h .records) (spaceIn h first s)) m))
+      → recorded (recordOf (recordsAfter h rs first s) (spaceIn h rs first s)) m
+      ≡ (leb (max (recordOf rs (spaceIn h rs first s) .top) (numberIn h rs first s + 1)) (m + 8192) && (eqb m (numberIn h rs first s) || recorded (recordOf rs (spaceIn h rs first s)) m))
   -- and the other spaces have what they had
-  pub others : (other : Space) → (other ≡ spaceIn h first s → ⊥) → recordOf (acted h (TakePacket first s) .records) other ≡ recordOf (h .records) other
+  pub others : (other : Space) → (other ≡ spaceIn h rs first s → ⊥) → recordOf (recordsAfter h rs first s) other ≡ recordOf rs other
 
 abbrev pub NumberRecorded : Type 0
-NumberRecorded = (h : Host) (first : ℕ) (s : List ℕ) → answered h (TakePacket first s) ≡ Accepted → Recorded h first s
+NumberRecorded = (h : State) (rs : Records) (first : ℕ) (s : List ℕ) → answered h (TakePacket rs first s) ≡ Accepted → Recorded h rs first s

@@ -1,11 +1,11 @@
 -- What was read can be written: a line for each type says that taking its frame apart gives back what was read, but for a STREAM's type.
 -- Assumes nothing.
 use mathlib.Core.Path.{_≡_, refl, sym, _∙_, ap, subst}
-use mathlib.Core.Bool.{Bool, true, false, true≢false, and-eq-true-iff}
+use mathlib.Core.Bool.{Bool, true, false, not, _&&_, true≢false, and-eq-true-iff}
 use mathlib.Core.List.{List, [], _∷_}
 use Prim.Native.Nat.{ℕ, suc, _+_, _*_, _-_, _/_, _%_, _^_, _≤_, _<_}
 use native.Mathlib.Omega.{arith}
-use borrow.Author.Tests.{leb-true, le-leb, ltb-false}
+use borrow.Author.Tests.{leb-true, le-leb, ltb-false, not-true}
 use lib.Dec.{ltb, leb, eqb}
 use lib.ListN.{length, getD}
 use Rattle.answers.specs.Choice.{_⇒_∣_}
@@ -381,3 +381,15 @@ pub read-taken : (t : List ℕ) (at : ℕ) {f : Frame} {ty n : ℕ} → anyFrame
 read-taken t at {f} {ty} {n} e =
     let g = any-got t at e in
     fields-taken t (g .0) ty f n (number.sound t at (g .1) .within) (g .3) (fields-got t (g .0) ty (g .4))
+
+-- so the end of a STREAM frame that was read is not above 2^62-1
+pub stream-end : (t : List ℕ) (at : ℕ) {id offset place len ty n : ℕ} {fin : Bool} → anyFrameAt t at ≡ Got (Stream id offset fin place len) ty n → offset + len ≤ 2 ^ 62 - 1
+unfolding takes faultOf
+stream-end t at {id} {offset} {place} {len} {ty} {n} {fin} e =
+    let f = contents t (Stream id offset fin place len) in
+    let low = f .inside && inRange (f .a ∷ f .b ∷ f .c ∷ f .d ∷ f .x ∷ f .y ∷ f .z ∷ f .len ∷ []) in
+    let right = not (faultOf (f .ty) (f .a) (f .b) (f .len)) in
+    let a = and-eq-true-iff (low && right) (fitting (layoutOf (f .ty) .tail) (f .a) (f .c) (f .d) (f .body)) .0 (read-taken t at e) in
+    let b = and-eq-true-iff low right .0 (a .0) in
+    let g : faultOf (streamType offset fin) id offset len ≡ false = not-true _ (b .1) in
+    end-low offset len (rw (with-len offset fin .1) at g)
