@@ -20,7 +20,7 @@ use Rattle.numbers.specs.Numbers.{bytesIn, windowOf, candidateOf, neares
 use Rattle.numbers.specs.Sound.{Sound, Enough}
 use Rattle.numbers.proofs.Nearest.{each-window, stay}
 
-window-bounds : (size : Size) → (2 ≤ windowOf size) × (windowOf size ≤ 2 ^ 32)
+pub window-bounds : (size : Size) → (2 ≤ windowOf size) × (windowOf size ≤ 2 ^ 32)
 window-bounds = each-window (λ (W : ℕ). (2 ≤ W) × (W ≤ 2 ^ 32)) (omega arith) (omega arith) (omega arith) (omega arith)
 
 -- while none is recorded, every truncated number is itself
@@ -84,10 +84,17 @@ module _ (pn next : ℕ) (acked : ℤ) (distance : next ≤ pn → pos pn -ℤ a
       one-is : (s : Size) → Enough pn acked s → Given (Length'.Is s)
       one-is s g e = let q : s ≡ size = cc in subst (Enough pn acked) q g
 
+-- the distance from acked, by one above it
+pub from-acked : (pn a : ℕ) → a + 1 ≤ pn → pos pn -ℤ pos a ≡ pos (pn + 1 - (a + 1))
+from-acked pn zero b = ap pos (omega arith)
+from-acked pn (suc a) b = rw (le-ltb pn (suc a) (omega arith)) (ap pos (omega arith))
+
+pub from-none : (pn : ℕ) → 0 ≤ pn → pos pn -ℤ negsuc 0 ≡ pos (pn + 1 - 0)
+from-none pn b = ap pos (omega arith)
+
 -- a size that is given is enough, and the least that is
 pub enough : (pn : ℕ) (acked : ℤ) {size : Size} → lengthOf pn acked ≡ Length'.Is size → Enough pn acked size
 unfolding lengthOf
-enough pn (pos zero) = enough-after pn 1 (pos 0) (λ b. ap pos (omega arith))
-enough pn (pos (suc a)) = enough-after pn (suc a + 1) (pos (suc a)) (λ b. rw (le-ltb pn (suc a) (omega arith)) (ap pos (omega arith)))
-enough pn (negsuc zero) = enough-after pn 0 (negsuc 0) (λ b. ap pos (omega arith))
+enough pn (pos a) = enough-after pn (a + 1) (pos a) (from-acked pn a)
+enough pn (negsuc zero) = enough-after pn 0 (negsuc 0) (from-none pn)
 enough pn (negsuc (suc k)) = λ e. impossible cc

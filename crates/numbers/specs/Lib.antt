@@ -1,2 +1,4 @@
 pub mod Numbers
 pub mod Sound
+pub mod Nearest
+pub mod Borders

@@ -1,7 +1,9 @@
--- What holds of every number that was recovered, and of every length that is given.
+-- What holds of every number that was recovered, of every length that is given, and where there is none.
 use mathlib.Core.Path.{_≡_}
 use Prim.Native.Nat.{ℕ, _*_, _%_, _^_, _≤_, _<_}
-use lib.IntN.{ℤ, pos, _-ℤ_}
+use mathlib.Core.Bool.{true, false}
+use lib.IntN.{ℤ, pos, negsuc, _-ℤ_}
+use lib.Signed.{ltZ}
 use Rattle.numbers.specs.declared.Size.{Size}
 use Rattle.numbers.specs.Numbers.{bytesIn, windowOf}
 
@@ -18,3 +20,10 @@ pub record Enough (pn : ℕ) (acked : ℤ) (size : Size) : Type 0 where
   pub above : 0 < d
   pub enough : 2 * d ≤ windowOf size
   pub least : (n : ℕ) → n < bytesIn size → 256 ^ n < 2 * d
+
+-- why there is no length for pn: document 01's reasons, "103 if there is none, pn is above 2^62-1, or acked is below -1 or not below pn"
+pub data NoLength (pn : ℕ) (acked : ℤ) : Type 0 where
+  TooFar : (d : ℕ) → pos pn -ℤ acked ≡ pos d → 256 ^ 4 < 2 * d → NoLength pn acked
+  AboveRange : 2 ^ 62 ≤ pn → NoLength pn acked
+  BelowNone : ltZ acked (negsuc 0) ≡ true → NoLength pn acked
+  NotBelow : ltZ acked (pos pn) ≡ false → NoLength pn acked
