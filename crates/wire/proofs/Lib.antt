@@ -6,4 +6,5 @@ pub mod Back
 pub mod Writing
 pub mod Exit
 pub mod Shortest
+pub mod Borders
 pub mod Unique

@@ -1,20 +1,20 @@
--- Whether a number stands in its shortest form is told by its value and its two places (W2): the test holds exactly where the bytes there are that form.
+-- Whether a number stands in its shortest form is told by its value and its two places (W2): the test holds exactly where the bytes there are that form; and no bytes that read as the number are fewer.
 -- Assumes nothing.
 use mathlib.Core.Path.{_≡_, refl, _∙_}
 use mathlib.Core.Bool.{true}
 use mathlib.Core.List.{List}
 use Prim.Native.Nat.{ℕ, zero, suc, _+_, _*_, _-_, _/_, _%_, _^_, _≤_, _<_}
-use native.Mathlib.Nat.{add-zero, zero-add, pow-suc}
+use native.Mathlib.Nat.{add-zero, zero-add, pow-suc, mod-lt}
 use native.Mathlib.Omega.{arith}
 use borrow.Author.Tests.{eqb-true, eq-eqb}
-use lib.Pow.{pow-lt}
+use lib.Pow.{pow-lt, pow-pos}
 use lib.ListN.{length, getD}
 use Rattle.answers.proofs.Choice.{below-or-not}
 use Rattle.wire.specs.Number.{bigEndian, valuesIn, numberAt, formAt, spelled, formOf, sizeOf, bytesOf, shortest, Stands}
 use Rattle.wire.specs.declared.Number.the-variants.{Is}
 use Rattle.wire.proofs.BigEndian.{join, length-spelled}
 use Rattle.wire.proofs.Standing.{append, one}
-use Rattle.wire.proofs.Back.{back}
+use Rattle.wire.proofs.Back.{back, by-size}
 use Rattle.wire.proofs.Sound.{sound, found, four}
 use Rattle.wire.proofs.Forms.{formed}
 
@@ -69,3 +69,22 @@ stands-shortest s at {v} {n} e st =
     let b : numberAt s at ≡ Is v (at + sizeOf v) = back s at v (sound s at e .low) st in
     let q : n ≡ at + sizeOf v = cc in
     eq-eqb _ _ q
+
+-- the shortest form is the shortest: bytes that read as v are never fewer
+module _ (s : List ℕ) (at : ℕ) {v next : ℕ} where
+  form-least : (k : ℕ) → (v < valuesIn k → sizeOf v ≤ k) → formAt s at k ≡ Is v next → at + sizeOf v ≤ next
+  unfolding valuesIn
+  form-least k small e =
+      let r = found s at k _ e in
+      let l = mod-lt (bigEndian s at k) {m = valuesIn k} (pow-pos (8 * k - 2)) in
+      omega (arith, r .ends, small (omega (arith, r .value)))
+
+  pub least : numberAt s at ≡ Is v next → at + sizeOf v ≤ next
+  unfolding numberAt valuesIn sizeOf
+  least =
+      four (λ (f : ℕ). formAt s at (2 ^ f) ≡ Is v next → at + sizeOf v ≤ next)
+      (form-least 1 (λ h. by-size v (λ (f : ℕ). 2 ^ f ≤ 1) (λ a. omega arith) (λ a b. omega arith) (λ a b. omega arith) (λ a. omega arith)))
+      (form-least 2 (λ h. by-size v (λ (f : ℕ). 2 ^ f ≤ 2) (λ a. omega arith) (λ a b. omega arith) (λ a b. omega arith) (λ a. omega arith)))
+      (form-least 4 (λ h. by-size v (λ (f : ℕ). 2 ^ f ≤ 4) (λ a. omega arith) (λ a b. omega arith) (λ a b. omega arith) (λ a. omega arith)))
+      (form-least 8 (λ h. by-size v (λ (f : ℕ). 2 ^ f ≤ 8) (λ a. omega arith) (λ a b. omega arith) (λ a b. omega arith) (λ a. omega arith)))
+      (getD s at 0 / 64 % 4) (omega arith)

@@ -1,3 +1,4 @@
 pub mod Number
 pub mod Sound
 pub mod Writing
+pub mod Borders
