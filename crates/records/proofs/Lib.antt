@@ -4,4 +4,6 @@ pub mod None
 pub mod Same
 pub mod Window
 pub mod Taking
+pub mod History
+pub mod Borders
 pub mod Unique

@@ -1,3 +1,5 @@
 pub mod Marks
 pub mod Ring
 pub mod Parts
+pub mod History
+pub mod Borders

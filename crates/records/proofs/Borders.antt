@@ -1,0 +1,27 @@
+-- The borders of the rules of a packet record hold by computation.
+-- Assumes nothing.
+use mathlib.Core.Path.{refl}
+use Rattle.ring.specs.Bits.{bit, bitAt, unmarked}
+use Rattle.records.specs.Marks.{recorded, noneOf, soundOf}
+use Rattle.records.specs.Ring.{wordOf, listOf, slotOf, ringOf, withMark, takenOf}
+use Rattle.records.specs.History.{isAmong, aboveAll, answerAfter, takenNumbers}
+use Rattle.records.specs.Borders.{Borders}
+
+pub borders : Borders
+unfolding bit bitAt unmarked recorded noneOf soundOf wordOf listOf slotOf ringOf withMark takenOf isAmong aboveAll answerAfter takenNumbers
+borders = record {
+  new = refl;
+  stray = refl;
+  below-zero = refl;
+  unmarked-largest = refl;
+  marked-largest = refl;
+  other-marked = refl;
+  highest = refl;
+  above-highest = refl;
+  unfit-first = refl;
+  in-range = refl;
+  window = refl;
+  from-zero = refl;
+  passed = refl;
+  refused-left = refl;
+}
