@@ -22,7 +22,7 @@ fn ranges(seen: Record, low: u64, mut numbers: [u64; 67]) -> Front
     let mut bottom = low;
     let mut n = 5;
     while n < 67 {
-        let Run::Span { high, low: next } = seen.next_run(bottom) else {
+        let Run::Span { high, low: next } = ring::next_run(&seen.words, seen.top, bottom) else {
             return Front { numbers, count: n };
         };
         numbers[n] = bottom - high - 2;
@@ -38,7 +38,7 @@ fn frame(seen: Record, delay: u64) -> Front
     ensures { λ r. ⌜ Framed seen delay r ⌝ }
 {
     let mut numbers = [0u64; 67];
-    let Run::Span { high, low } = seen.next_run(seen.top) else {
+    let Run::Span { high, low } = ring::next_run(&seen.words, seen.top, seen.top) else {
         return Front { numbers, count: 0 };
     };
     numbers[0] = 2;

@@ -1,10 +1,10 @@
 // The record of the last 8,192 packet numbers of a space (document 01, "Packet numbers"): a ring of 128 words, a bit for each number.
 ghost use mathlib.Core.Path.{_≡_};
 ghost use Prim.Native.Nat.{_+_, _≤_, _<_, _^_};
-ghost use Rattle.ring.specs.Runs.{nextRun};
 ghost use Rattle.ring.specs.Parts.{Without, Put};
-ghost use Rattle.records.specs.Marks.{recorded, noneOf, checkOf, testOf};
+ghost use Rattle.records.specs.Marks.{noneOf, checkOf, testOf};
 ghost use Rattle.records.specs.Ring.{takenOf, takenIn};
+ghost use Rattle.records.specs.Found.{foundOf};
 ghost use Rattle.records.specs.Parts.{joined, Whole, Cleared, Slid, Marked};
 use answers::Answer;
 use ring::Run;
@@ -26,6 +26,12 @@ pub struct Taken {
 pub struct Topped {
     pub answer: Answer,
     pub top: u64,
+}
+
+// The next run of a record downwards, or 120.
+pub enum Found {
+    Is { run: Run },
+    Refused { answer: Answer },
 }
 
 // The largest packet number: 2^62-1.
@@ -53,7 +59,7 @@ fn put(w: u64, b: u64) -> u64
     w | (1u64 << b)
 }
 
-// 120 for a record that does not fit.
+// 120 for a record that does not fit. Public as a part of taking a packet: `spaces::fit` asks it of the words of three records that are lent, so that none is copied.
 pub fn check_of(words: &[u64; 128], top: u64) -> Answer
     ensures { λ r. ⌜ r ≡ checkOf (joined (now (words .entry)) top) ⌝ }
 {
@@ -72,7 +78,8 @@ pub fn check_of(words: &[u64; 128], top: u64) -> Answer
     Answer::DoesNotFit
 }
 
-// 106 for a number below the record, 107 for one in it already.
+// 106 for a number below the record, 107 for one in it already. Public as a part of taking a packet: `packets::checks::begin` has asked
+// `spaces::fit` for 120 before, and `numbers::recover` for 111; a host's call by itself is `Record::test`.
 pub fn test_of(words: &[u64; 128], top: u64, n: u64) -> Answer
     ensures { λ r. ⌜ r ≡ testOf (joined (now (words .entry)) top) n ⌝ }
 {
@@ -156,6 +163,7 @@ fn answer_to(words: &[u64; 128], top: u64, n: u64) -> Answer
 }
 
 // Records a number that comes in words that are lent: 120, 111, 106 and 107 leave them and the top as they were.
+// Public as a part of taking a packet: `spaces::recorded` records the number in place. `packets::checks::begin` has asked for 120 before, and it is asked again here.
 pub fn take_of(words: &mut [u64; 128], top: u64, n: u64) -> Topped
     ensures { λ r. ⌜ takenIn r (now (words .exit)) ≡ takenOf (joined (now (words .entry)) top) n ⌝ }
 {
@@ -186,11 +194,11 @@ impl Record {
         check_of(&self.words, self.top)
     }
 
-    // 106 for a number below the record, 107 for one in it already.
+    // What `take` would answer: 120 for a record that does not fit, 111 above 2^62-1, 106 for a number below the record, 107 for one in it already.
     pub fn test(self, n: u64) -> Answer
-        ensures { λ r. ⌜ r ≡ testOf self n ⌝ }
+        ensures { λ r. ⌜ r ≡ takenOf self n .answer ⌝ }
     {
-        test_of(&self.words, self.top, n)
+        answer_to(&self.words, self.top, n)
     }
 
     // Records a number that comes: 120, 111, 106 and 107 leave the record as it was.
@@ -207,10 +215,17 @@ impl Record {
         }
     }
 
-    // The next run of recorded numbers below `below`, as long as it can be.
-    pub fn next_run(self, below: u64) -> Run
-        ensures { λ r. ⌜ r ≡ nextRun (recorded self) below ⌝ }
+    // The next run of recorded numbers below `below`, as long as it can be; 120 for a record that does not fit.
+    pub fn next_run(self, below: u64) -> Found
+        ensures { λ r. ⌜ r ≡ foundOf self below ⌝ }
     {
-        ring::next_run(&self.words, self.top, below)
+        let Answer::Accepted = check_of(&self.words, self.top) else {
+            return Found::Refused {
+                answer: Answer::DoesNotFit,
+            };
+        };
+        Found::Is {
+            run: ring::next_run(&self.words, self.top, below),
+        }
     }
 }

@@ -1,5 +1,6 @@
 // A ring of 128 words, a bit for each number: what is marked in it, and its runs. The words are lent, since a ring by value is
-// a copy of 1 KB for each call. The number n has the bit n % 64 of the word n / 64 % 128.
+// a copy of 1 KB for each call. The number n has the bit n % 64 of the word n / 64 % 128. No function here is a call for a host: each is
+// a part of one that takes a record, and what it answers of words that are no record is still fixed by its contract.
 ghost use mathlib.Core.Path.{_≡_};
 ghost use Prim.Native.Nat.{_-_, _*_, _≤_, _<_};
 ghost use Rattle.ring.specs.Bits.{bitAt, marked, unmarked};
@@ -20,7 +21,7 @@ fn blank(w: u64, s: u64) -> bool
     w >> s == 0
 }
 
-// The bit of the number n.
+// The bit of the number n. Public as a part of `records::check_of`, which asks for 120 with it, and of `records::test_of`, whose callers have asked before.
 pub fn bit_at(words: &[u64; 128], n: u64) -> u64
     ensures { λ r. ⌜ r ≡ bitAt (now (words .entry)) n ⌝ }
 {
@@ -61,6 +62,7 @@ fn zeros(words: &[u64; 128], from: usize) -> bool
 }
 
 // Whether no number below 0 is marked: while the largest is below 8,191 the slots above it are theirs, the rest of a word and whole words.
+// Public as a part of `records::check_of`, which asks for 120 with it.
 pub fn is_clean(words: &[u64; 128], top: u64) -> bool
     ensures { λ r. ⌜ r ≡ unmarked (now (words .entry)) top (8192 - top) ⌝ }
 {
@@ -75,6 +77,7 @@ pub fn is_clean(words: &[u64; 128], top: u64) -> bool
 }
 
 // The next run of the numbers below `top` that are marked, below `below` and as long as it can be.
+// Public as a part of `records::Record::next_run` and of `acks::write`, which have each asked for 120 once before, not for each run.
 pub fn next_run(words: &[u64; 128], top: u64, below: u64) -> Run
     ensures { λ r. ⌜ r ≡ nextRun (marked (now (words .entry)) top) below ⌝ }
 {

@@ -4,22 +4,26 @@ use borrow.Author.Needs.{needs}
 use mathlib.Core.Path.{refl, sym, _∙_}
 use native.Mathlib.Omega.{arith}
 use lib.ListN.{length-set}
+use Rattle.records.specs.Marks.{recorded}
 use Rattle.acks.specs.Ack.{ackOf, frameOf}
 use Rattle.acks.proofs.Going.{is-run, none, framed}
 use Rattle.acks.proofs.frame.Statement.{statement}
 use Rattle.acks.proofs.frame.Tie as tie
 
 returns : tie.Need-returns
-unfolding ackOf frameOf
+unfolding ackOf frameOf recorded
 returns c = record { long = refl; most = omega arith; holds = rw (none _ 32 _ (sym (c .before .before .next-run .ensures) ∙ c .enum-told .given .1)) }
 
 sub-numbers : tie.Need-sub-numbers
+unfolding recorded
 sub-numbers c = is-run _ _ (sym (c .before .before .before .next-run .ensures) ∙ c .before .high .given .1) .ordered
 
 ranges-requires : tie.Need-ranges-requires
+unfolding recorded
 ranges-requires c κs = record { stop = is-run _ _ (sym (c .before .before .before .next-run .ensures) ∙ c .before .high .given .1) .stop }
 
 returns-2 : tie.Need-returns-2
+unfolding recorded
 returns-2 c =
     let r = c .ranges .ensures in
     record {

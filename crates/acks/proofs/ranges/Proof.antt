@@ -11,34 +11,39 @@ use Rattle.acks.proofs.ranges.Statement.{statement}
 use Rattle.acks.proofs.ranges.Tie as tie
 
 abbrev Inv-loop : tie.InvT-loop
-Inv-loop seen low numbers₀ bottom₀ n₀ numbers bottom n = (k : ℕ) × Going (recorded seen) low numbers₀ numbers bottom n k
+Inv-loop low seen numbers₀ bottom₀ n₀ numbers bottom n = (k : ℕ) × Going (recorded seen) low numbers₀ numbers bottom n k
 
 abbrev μ-loop : tie.MeasureT-loop
-μ-loop seen low numbers₀ bottom₀ n₀ numbers bottom n = 67 - n
+μ-loop low seen numbers₀ bottom₀ n₀ numbers bottom n = 67 - n
 
 loop-holds : tie.Need-loop-holds Inv-loop μ-loop
 loop-holds c = (31, begin _ _ _ (search needs) (c .pre .stop))
 
 returns : tie.Need-returns Inv-loop μ-loop
+unfolding recorded
 returns c =
-    let l = c .before .before .before .before .loop .inv in
+    let l = c .before .before .before .before .before .before .loop .inv in
     let z = ended _ _ _ _ _ _ (l .0) (l .1) (none _ (l .0) _ (sym (c .before .before .next-run .ensures) ∙ c .enum-told .given .1)) in
     record { long = l .1 .long; count = z .0; most = omega (arith, l .1 .left); holds = z .1 }
 
 sub-numbers : tie.Need-sub-numbers Inv-loop μ-loop
-sub-numbers c = omega (arith, gap _ _ _ _ _ _ (c .before .before .before .before .before .loop .inv .1) (sym (c .before .before .before .next-run .ensures) ∙ c .before .high .given .1))
+unfolding recorded
+sub-numbers c = omega (arith, gap _ _ _ _ _ _ (c .before .before .before .before .before .before .before .loop .inv .1) (sym (c .before .before .before .next-run .ensures) ∙ c .before .high .given .1))
 
 sub-numbers-2 : tie.Need-sub-numbers-2 Inv-loop μ-loop
-sub-numbers-2 c = omega (arith, gap _ _ _ _ _ _ (c .before .before .before .before .before .loop .inv .1) (sym (c .before .before .before .next-run .ensures) ∙ c .before .high .given .1))
+unfolding recorded
+sub-numbers-2 c = omega (arith, gap _ _ _ _ _ _ (c .before .before .before .before .before .before .before .loop .inv .1) (sym (c .before .before .before .next-run .ensures) ∙ c .before .high .given .1))
 
 sub-numbers-3 : tie.Need-sub-numbers-3 Inv-loop μ-loop
-sub-numbers-3 c = gap _ _ _ _ _ _ (c .before .before .before .before .before .loop .inv .1) (sym (c .before .before .before .next-run .ensures) ∙ c .before .high .given .1) .1
+unfolding recorded
+sub-numbers-3 c = gap _ _ _ _ _ _ (c .before .before .before .before .before .before .before .loop .inv .1) (sym (c .before .before .before .next-run .ensures) ∙ c .before .high .given .1) .1
 
 array-write-numbers-2 : tie.Need-array-write-numbers-2 Inv-loop μ-loop
-array-write-numbers-2 c = omega (arith, c .before .before .before .before .before .loop .inv .1 .left)
+array-write-numbers-2 c = omega (arith, c .before .before .before .before .before .before .before .loop .inv .1 .left)
 
 loop-again : tie.Need-loop-again Inv-loop μ-loop
-loop-again c = turn _ _ _ _ _ _ _ (c .before .before .before .before .loop-test .taken) (c .before .before .before .before .before .loop .inv .1) (sym (c .before .before .before .next-run .ensures) ∙ c .before .high .given .1)
+unfolding recorded
+loop-again c = turn _ _ _ _ _ _ _ (c .before .before .before .before .before .before .loop-test .taken) (c .before .before .before .before .before .before .before .loop .inv .1) (sym (c .before .before .before .next-run .ensures) ∙ c .before .high .given .1)
 
 returns-2 : tie.Need-returns-2 Inv-loop μ-loop
 unfolding runsDown
