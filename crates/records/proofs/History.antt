@@ -19,6 +19,7 @@ use Rattle.records.specs.History.{recordAfter, isAmong, aboveAll, answer
 use Rattle.records.proofs.None.{none-fits, none-recorded}
 use Rattle.records.proofs.Taking.{can-be, accepts as accepted, leaves, added, still-fits}
 
+-- what is answered next follows from what the record holds, and from that it fits
 module _ (l : List ℕ) (R : Record) (fit : soundOf R ≡ true) (high : R .top ≡ aboveAll l) (held : (m : ℕ) → recorded R m ≡ (leb (aboveAll l) (m + 8192) && isAmong m l)) where
   answers : (n : ℕ) → takenOf R n .answer ≡ answerAfter l n
   unfolding takenOf answerAfter
@@ -34,6 +35,7 @@ module _ (l : List ℕ) (R : Record) (fit : soundOf R ≡ true) (high : R .top �
   as-taken : Holds l R
   as-taken = record { fits = fit; top = high; last = held; next = answers }
 
+-- one number more: it is added, or the record is left
 module _ (l : List ℕ) (R : Record) (h : Holds l R) (n : ℕ) where
   taken : answerAfter l n ≡ Accepted → Holds (n ∷ l) (takenOf R n .«record»)
   unfolding aboveAll isAmong withMark ringOf
@@ -48,6 +50,7 @@ module _ (l : List ℕ) (R : Record) (h : Holds l R) (n : ℕ) where
   refused : (answerAfter l n ≡ Accepted → ⊥) → Holds l (takenOf R n .«record»)
   refused f = rw (leaves R n (λ e. f (sym (h .next n) ∙ e))) h
 
+-- so after every history
 pub kept : (xs : List ℕ) → Holds (takenNumbers xs) (recordAfter xs)
 unfolding recordAfter takenNumbers aboveAll isAmong noneOf
 kept [] = as-taken [] noneOf (can-be noneOf none-fits) refl (λ m. none-recorded m ∙ sym (and-false (leb 0 (m + 8192))))
