@@ -3,4 +3,6 @@ pub mod Choice
 pub mod Distinct
 pub mod Firm
 pub mod Numbers
+pub mod Said
+pub mod Table
 pub mod Unique

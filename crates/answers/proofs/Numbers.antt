@@ -6,23 +6,22 @@ use types.Run.{OneOf, miss}
 use lib.Dec.{eqb}
 use Rattle.answers.specs.Choice.{_⇒_∣_}
 use Rattle.answers.specs.Answers.{numberOf}
+use Rattle.answers.specs.Table.{everyAnswer}
 use Rattle.answers.specs.declared.Answer.{Answer}
 use Rattle.answers.specs.declared.Answer.the-variants.{Accepted, Done, FlowControl, StreamLimit, StreamState, FinalSize, FrameEncoding, ProtocolViolation, Closed, NotAbove, AboveCeiling, NotServed, SizeKnown, BelowRecord, InRecord, NoRoom, Unwritable, NoPacket, NoSuchNumber, NothingToAcknowledge, DoesNotFit}
 use mathlib.Core.List.{List, [], _∷_}
-
-cases : List Answer
-cases =
-    Accepted ∷ Done ∷ FlowControl ∷ StreamLimit ∷ StreamState ∷ FinalSize ∷ FrameEncoding ∷ ProtocolViolation
-    ∷ Closed ∷ NotAbove ∷ AboveCeiling ∷ NotServed ∷ SizeKnown ∷ BelowRecord ∷ InRecord ∷ NoRoom ∷ Unwritable ∷ NoPacket ∷ NoSuchNumber ∷ NothingToAcknowledge
-    ∷ DoesNotFit ∷ []
 
 -- the first answer of a list with the number n
 first : List Answer → ℕ → Answer
 first [] n = Accepted
 first (a ∷ l) n = eqb (numberOf a) n ⇒ a ∣ first l n
 
-again : (a : Answer) → first cases (numberOf a) ≡ a
-unfolding first cases
+-- the answer with a number
+pub answerOf : ℕ → Answer
+answerOf n = first everyAnswer n
+
+pub again : (a : Answer) → answerOf (numberOf a) ≡ a
+unfolding first answerOf
 again a = elim a [
   | Accepted ↦ refl
   | Done ↦ refl
@@ -48,7 +47,7 @@ again a = elim a [
 ]
 
 pub one-case : (a b : Answer) → numberOf a ≡ numberOf b → a ≡ b
-one-case a b e = sym (again a) ∙ ap (first cases) e ∙ again b
+one-case a b e = sym (again a) ∙ ap answerOf e ∙ again b
 
 -- the tags of all answers but `Accepted`: where a match has told one of these apart, the answer is not `Accepted`, whose tag is 0
 abbrev pub others : List ℕ

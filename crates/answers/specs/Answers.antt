@@ -46,3 +46,16 @@ numberOf DoesNotFit = 120
 -- whether an answer accepts
 abbrev pub accepts : Answer → Bool
 accepts answer = eqb (numberOf answer) 0
+
+-- what a call answers: this paper's number, and the values that come with it
+pub record Said (Values : Type 0) : Type 0 where
+  pub number : ℕ
+  pub values : Values
+
+-- accepted, with values
+abbrev pub accepting : {Values : Type 0} → Values → Said Values
+accepting values = record { number = numberOf Accepted; values = values }
+
+-- refused, with values
+abbrev pub refusing : {Values : Type 0} → Answer → Values → Said Values
+refusing answer values = record { number = numberOf answer; values = values }

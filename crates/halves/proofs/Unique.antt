@@ -1,6 +1,7 @@
 -- The contract of every function that other crates can call is firm: it asks nothing and is an equation of the answer.
 -- Assumes nothing.
-use Rattle.answers.specs.Firm.{FirmAnswer}
+use mathlib.Core.Path.{refl}
+use Rattle.answers.specs.Firm.{Firm}
 use Rattle.answers.proofs.Firm.{equation}
 use Rattle.halves.proofs.named.Kinds as named
 use Rattle.halves.proofs.named.Reads as named-reads
@@ -11,14 +12,14 @@ use Rattle.halves.proofs.is_peers.Reads as is-peers-reads
 use Rattle.halves.proofs.place_of.Kinds as place-of
 use Rattle.halves.proofs.place_of.Reads as place-of-reads
 
-pub named-firm : FirmAnswer 0 named.ps named.r named-reads.Asked named-reads.Post
-named-firm = equation
+pub named-firm : Firm 0 named.ps named.r named-reads.Asked named-reads.Post
+named-firm = equation refl
 
-pub id-of-firm : FirmAnswer 0 id-of.ps id-of.r id-of-reads.Asked id-of-reads.Post
-id-of-firm = equation
+pub id-of-firm : Firm 0 id-of.ps id-of.r id-of-reads.Asked id-of-reads.Post
+id-of-firm = equation refl
 
-pub is-peers-firm : FirmAnswer 0 is-peers.ps is-peers.r is-peers-reads.Asked is-peers-reads.Post
-is-peers-firm = equation
+pub is-peers-firm : Firm 0 is-peers.ps is-peers.r is-peers-reads.Asked is-peers-reads.Post
+is-peers-firm = equation refl
 
-pub place-of-firm : FirmAnswer 0 place-of.ps place-of.r place-of-reads.Asked place-of-reads.Post
-place-of-firm = equation
+pub place-of-firm : Firm 0 place-of.ps place-of.r place-of-reads.Asked place-of-reads.Post
+place-of-firm = equation refl

@@ -1,6 +1,7 @@
 -- The contracts of `table::find`, `pieces::read_numbers` and `pieces::read_body` are firm: each is an equation of the answer.
 -- Assumes nothing.
-use Rattle.answers.specs.Firm.{FirmAnswer}
+use mathlib.Core.Path.{refl}
+use Rattle.answers.specs.Firm.{Firm}
 use Rattle.answers.proofs.Firm.{equation}
 use Rattle.layouts.proofs.table.find.Kinds as find
 use Rattle.layouts.proofs.table.find.Reads as finding
@@ -9,11 +10,11 @@ use Rattle.layouts.proofs.pieces.read_numbers.Reads as numbers-reads
 use Rattle.layouts.proofs.pieces.read_body.Kinds as body
 use Rattle.layouts.proofs.pieces.read_body.Reads as body-reads
 
-pub find-firm : FirmAnswer 0 find.ps find.r finding.Asked finding.Post
-find-firm = equation
+pub find-firm : Firm 0 find.ps find.r finding.Asked finding.Post
+find-firm = equation refl
 
-pub read-numbers-firm : FirmAnswer 1 numbers.ps numbers.r numbers-reads.Asked numbers-reads.Post
-read-numbers-firm = equation
+pub read-numbers-firm : Firm 1 numbers.ps numbers.r numbers-reads.Asked numbers-reads.Post
+read-numbers-firm = equation refl
 
-pub read-body-firm : FirmAnswer 1 body.ps body.r body-reads.Asked body-reads.Post
-read-body-firm = equation
+pub read-body-firm : Firm 1 body.ps body.r body-reads.Asked body-reads.Post
+read-body-firm = equation refl

@@ -1,6 +1,7 @@
 -- The contract of every function that other crates can call is firm: it asks nothing and is an equation of the answer.
 -- Assumes nothing.
-use Rattle.answers.specs.Firm.{FirmAnswer}
+use mathlib.Core.Path.{refl}
+use Rattle.answers.specs.Firm.{Firm}
 use Rattle.answers.proofs.Firm.{equation}
 use Rattle.opening.proofs.Opened.open.Kinds as opens
 use Rattle.opening.proofs.Opened.open.Reads as opens-reads
@@ -15,20 +16,20 @@ use Rattle.opening.proofs.entry.Reads as enters-reads
 use Rattle.opening.proofs.room.Kinds as room
 use Rattle.opening.proofs.room.Reads as room-reads
 
-pub opens-firm : FirmAnswer 0 opens.ps opens.r opens-reads.Asked opens-reads.Post
-opens-firm = equation
+pub opens-firm : Firm 0 opens.ps opens.r opens-reads.Asked opens-reads.Post
+opens-firm = equation refl
 
-pub refuses-firm : FirmAnswer 0 refuses.ps refuses.r refuses-reads.Asked refuses-reads.Post
-refuses-firm = equation
+pub refuses-firm : Firm 0 refuses.ps refuses.r refuses-reads.Asked refuses-reads.Post
+refuses-firm = equation refl
 
-pub for-table-firm : FirmAnswer 0 for-table.ps for-table.r for-table-reads.Asked for-table-reads.Post
-for-table-firm = equation
+pub for-table-firm : Firm 0 for-table.ps for-table.r for-table-reads.Asked for-table-reads.Post
+for-table-firm = equation refl
 
-pub counts-firm : FirmAnswer 0 counts.ps counts.r counts-reads.Asked counts-reads.Post
-counts-firm = equation
+pub counts-firm : Firm 0 counts.ps counts.r counts-reads.Asked counts-reads.Post
+counts-firm = equation refl
 
-pub enters-firm : FirmAnswer 0 enters.ps enters.r enters-reads.Asked enters-reads.Post
-enters-firm = equation
+pub enters-firm : Firm 0 enters.ps enters.r enters-reads.Asked enters-reads.Post
+enters-firm = equation refl
 
-pub room-firm : FirmAnswer 0 room.ps room.r room-reads.Asked room-reads.Post
-room-firm = equation
+pub room-firm : Firm 0 room.ps room.r room-reads.Asked room-reads.Post
+room-firm = equation refl

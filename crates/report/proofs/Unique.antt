@@ -1,11 +1,8 @@
 -- The contract of every function that other crates can call is firm: it asks nothing and is an equation of the answer, and of the output where there is one.
 -- Assumes nothing.
-use mathlib.Core.List.{List}
-use Prim.Native.Nat.{ℕ}
-use denote.Ref.{now}
-use Rattle.answers.specs.Firm.{Firm, FirmAnswer}
+use mathlib.Core.Path.{refl}
+use Rattle.answers.specs.Firm.{Firm}
 use Rattle.answers.proofs.Firm.{equation, outcome-equation}
-use Rattle.wire.specs.declared.Wrote.{Wrote}
 use Rattle.report.proofs.taken.too_long.Kinds as too-long
 use Rattle.report.proofs.taken.too_long.Reads as too-long-reads
 use Rattle.report.proofs.taken.taken_row.Kinds as taken-row
@@ -17,17 +14,17 @@ use Rattle.report.proofs.taken.last.Reads as last-reads
 use Rattle.report.proofs.taken.ending.Kinds as ending
 use Rattle.report.proofs.taken.ending.Reads as ending-reads
 
-pub too-long-firm : FirmAnswer 0 too-long.ps too-long.r too-long-reads.Asked too-long-reads.Post
-too-long-firm = equation
+pub too-long-firm : Firm 0 too-long.ps too-long.r too-long-reads.Asked too-long-reads.Post
+too-long-firm = equation refl
 
-pub taken-row-firm : Firm 1 taken-row.ps taken-row.r taken-row-reads.Asked taken-row-reads.Post (λ κs. Wrote × List ℕ) (λ κs x s. (x, now (s .0)))
-taken-row-firm = outcome-equation
+pub taken-row-firm : Firm 1 taken-row.ps taken-row.r taken-row-reads.Asked taken-row-reads.Post
+taken-row-firm = outcome-equation (λ κs a w. (w, (tt, (tt, (tt, tt))))) refl
 
-pub after-firm : FirmAnswer 0 after.ps after.r after-reads.Asked after-reads.Post
-after-firm = equation
+pub after-firm : Firm 0 after.ps after.r after-reads.Asked after-reads.Post
+after-firm = equation refl
 
-pub last-firm : FirmAnswer 0 last.ps last.r last-reads.Asked last-reads.Post
-last-firm = equation
+pub last-firm : Firm 0 last.ps last.r last-reads.Asked last-reads.Post
+last-firm = equation refl
 
-pub ending-firm : Firm 1 ending.ps ending.r ending-reads.Asked ending-reads.Post (λ κs. Wrote × List ℕ) (λ κs x s. (x, now (s .0)))
-ending-firm = outcome-equation
+pub ending-firm : Firm 1 ending.ps ending.r ending-reads.Asked ending-reads.Post
+ending-firm = outcome-equation (λ κs a w. (w, (tt, (tt, tt)))) refl

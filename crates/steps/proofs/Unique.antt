@@ -1,6 +1,7 @@
 -- The contract of every function that other crates can call is firm: it asks nothing and is an equation of the answer.
 -- Assumes nothing.
-use Rattle.answers.specs.Firm.{FirmAnswer}
+use mathlib.Core.Path.{refl}
+use Rattle.answers.specs.Firm.{Firm}
 use Rattle.answers.proofs.Firm.{equation}
 use Rattle.steps.proofs.frame.request.Kinds as request
 use Rattle.steps.proofs.frame.request.Reads as request-reads
@@ -13,17 +14,17 @@ use Rattle.steps.proofs.frame.show.Reads as show-reads
 use Rattle.steps.proofs.gates.gate.Kinds as gate
 use Rattle.steps.proofs.gates.gate.Reads as gate-reads
 
-pub request-firm : FirmAnswer 1 request.ps request.r request-reads.Asked request-reads.Post
-request-firm = equation
+pub request-firm : Firm 1 request.ps request.r request-reads.Asked request-reads.Post
+request-firm = equation refl
 
-pub decide-firm : FirmAnswer 0 decide.ps decide.r decide-reads.Asked decide-reads.Post
-decide-firm = equation
+pub decide-firm : Firm 0 decide.ps decide.r decide-reads.Asked decide-reads.Post
+decide-firm = equation refl
 
-pub past-padding-firm : FirmAnswer 1 past-padding.ps past-padding.r past-padding-reads.Asked past-padding-reads.Post
-past-padding-firm = equation
+pub past-padding-firm : Firm 1 past-padding.ps past-padding.r past-padding-reads.Asked past-padding-reads.Post
+past-padding-firm = equation refl
 
-pub show-firm : FirmAnswer 1 show.ps show.r show-reads.Asked show-reads.Post
-show-firm = equation
+pub show-firm : Firm 1 show.ps show.r show-reads.Asked show-reads.Post
+show-firm = equation refl
 
-pub gate-firm : FirmAnswer 0 gate.ps gate.r gate-reads.Asked gate-reads.Post
-gate-firm = equation
+pub gate-firm : Firm 0 gate.ps gate.r gate-reads.Asked gate-reads.Post
+gate-firm = equation refl

@@ -1,6 +1,7 @@
 -- The contract of every function that other crates can call is firm: it asks nothing and is an equation of the answer.
 -- Assumes nothing.
-use Rattle.answers.specs.Firm.{FirmAnswer}
+use mathlib.Core.Path.{refl}
+use Rattle.answers.specs.Firm.{Firm}
 use Rattle.answers.proofs.Firm.{equation}
 use Rattle.streams.proofs.Mark.is_open.Kinds as is-open
 use Rattle.streams.proofs.Mark.is_open.Reads as is-open-reads
@@ -25,35 +26,35 @@ use Rattle.streams.proofs.Conn.hand_out.Reads as hand-out-reads
 use Rattle.streams.proofs.larger.Kinds as larger
 use Rattle.streams.proofs.larger.Reads as larger-reads
 
-pub is-open-firm : FirmAnswer 0 is-open.ps is-open.r is-open-reads.Asked is-open-reads.Post
-is-open-firm = equation
+pub is-open-firm : Firm 0 is-open.ps is-open.r is-open-reads.Asked is-open-reads.Post
+is-open-firm = equation refl
 
-pub of-firm : FirmAnswer 0 of.ps of.r of-reads.Asked of-reads.Post
-of-firm = equation
+pub of-firm : Firm 0 of.ps of.r of-reads.Asked of-reads.Post
+of-firm = equation refl
 
-pub fit-firm : FirmAnswer 0 fit.ps fit.r fit-reads.Asked fit-reads.Post
-fit-firm = equation
+pub fit-firm : Firm 0 fit.ps fit.r fit-reads.Asked fit-reads.Post
+fit-firm = equation refl
 
-pub initial-of-firm : FirmAnswer 0 initial-of.ps initial-of.r initial-of-reads.Asked initial-of-reads.Post
-initial-of-firm = equation
+pub initial-of-firm : Firm 0 initial-of.ps initial-of.r initial-of-reads.Asked initial-of-reads.Post
+initial-of-firm = equation refl
 
-pub opened-of-firm : FirmAnswer 0 opened-of.ps opened-of.r opened-of-reads.Asked opened-of-reads.Post
-opened-of-firm = equation
+pub opened-of-firm : Firm 0 opened-of.ps opened-of.r opened-of-reads.Asked opened-of-reads.Post
+opened-of-firm = equation refl
 
-pub count-of-firm : FirmAnswer 0 count-of.ps count-of.r count-of-reads.Asked count-of-reads.Post
-count-of-firm = equation
+pub count-of-firm : Firm 0 count-of.ps count-of.r count-of-reads.Asked count-of-reads.Post
+count-of-firm = equation refl
 
-pub next-of-firm : FirmAnswer 0 next-of.ps next-of.r next-of-reads.Asked next-of-reads.Post
-next-of-firm = equation
+pub next-of-firm : Firm 0 next-of.ps next-of.r next-of-reads.Asked next-of-reads.Post
+next-of-firm = equation refl
 
-pub marked-firm : FirmAnswer 0 marked.ps marked.r marked-reads.Asked marked-reads.Post
-marked-firm = equation
+pub marked-firm : Firm 0 marked.ps marked.r marked-reads.Asked marked-reads.Post
+marked-firm = equation refl
 
-pub open-to-firm : FirmAnswer 0 open-to.ps open-to.r open-to-reads.Asked open-to-reads.Post
-open-to-firm = equation
+pub open-to-firm : Firm 0 open-to.ps open-to.r open-to-reads.Asked open-to-reads.Post
+open-to-firm = equation refl
 
-pub hand-out-firm : FirmAnswer 0 hand-out.ps hand-out.r hand-out-reads.Asked hand-out-reads.Post
-hand-out-firm = equation
+pub hand-out-firm : Firm 0 hand-out.ps hand-out.r hand-out-reads.Asked hand-out-reads.Post
+hand-out-firm = equation refl
 
-pub larger-firm : FirmAnswer 0 larger.ps larger.r larger-reads.Asked larger-reads.Post
-larger-firm = equation
+pub larger-firm : Firm 0 larger.ps larger.r larger-reads.Asked larger-reads.Post
+larger-firm = equation refl

@@ -1,0 +1,17 @@
+-- Document 01's table of answer numbers as one row: the numbers of all answers, in its order.
+use mathlib.Core.Path.{_≡_}
+use mathlib.Core.List.{List, [], _∷_, map}
+use Rattle.answers.specs.Answers.{numberOf}
+use Rattle.answers.specs.declared.Answer.{Answer}
+use Rattle.answers.specs.declared.Answer.the-variants.{Accepted, Done, FlowControl, StreamLimit, StreamState, FinalSize, FrameEncoding, ProtocolViolation, Closed, NotAbove, AboveCeiling, NotServed, SizeKnown, BelowRecord, InRecord, NoRoom, Unwritable, NoPacket, NoSuchNumber, NothingToAcknowledge, DoesNotFit}
+
+-- every answer that there is (`proofs/Numbers.antt` finds each of them here by its number)
+abbrev pub everyAnswer : List Answer
+everyAnswer =
+    Accepted ∷ Done ∷ FlowControl ∷ StreamLimit ∷ StreamState ∷ FinalSize ∷ FrameEncoding ∷ ProtocolViolation
+    ∷ Closed ∷ NotAbove ∷ AboveCeiling ∷ NotServed ∷ SizeKnown ∷ BelowRecord ∷ InRecord ∷ NoRoom ∷ Unwritable ∷ NoPacket ∷ NoSuchNumber ∷ NothingToAcknowledge
+    ∷ DoesNotFit ∷ []
+
+pub record Table : Type 0 where
+  -- "0; done", "3, 4, 5, 6, 7, 10", "101" to "112", "120"; the document gives "done" no number, and 100 is ours
+  pub numbers : map numberOf everyAnswer ≡ 0 ∷ 100 ∷ 3 ∷ 4 ∷ 5 ∷ 6 ∷ 7 ∷ 10 ∷ 101 ∷ 102 ∷ 103 ∷ 104 ∷ 105 ∷ 106 ∷ 107 ∷ 108 ∷ 109 ∷ 110 ∷ 111 ∷ 112 ∷ 120 ∷ []
