@@ -1,3 +1,4 @@
 pub mod Inside
 pub mod Unseen
 pub mod Unique
+pub mod Said

@@ -2,3 +2,4 @@ pub mod Header
 pub mod Split
 pub mod Inside
 pub mod Unseen
+pub mod Said

@@ -1,3 +1,4 @@
 pub mod Faults
 pub mod Heads
 pub mod Parts
+pub mod Said

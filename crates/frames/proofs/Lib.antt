@@ -3,3 +3,4 @@ pub mod Going
 pub mod Order
 pub mod Sound
 pub mod Unique
+pub mod Said

@@ -2,3 +2,4 @@ pub mod Admission
 pub mod Fields
 pub mod Reading
 pub mod Sound
+pub mod Said

@@ -5,3 +5,4 @@ pub mod Meaning
 pub mod Refusals
 pub mod Borders
 pub mod Unique
+pub mod Said

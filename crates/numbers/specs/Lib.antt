@@ -2,3 +2,4 @@ pub mod Numbers
 pub mod Sound
 pub mod Nearest
 pub mod Borders
+pub mod Said

@@ -4,3 +4,4 @@ pub mod Listing
 pub mod Spelling
 pub mod Measuring
 pub mod Unique
+pub mod Said

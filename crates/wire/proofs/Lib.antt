@@ -8,3 +8,4 @@ pub mod Exit
 pub mod Shortest
 pub mod Borders
 pub mod Unique
+pub mod Said

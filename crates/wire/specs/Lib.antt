@@ -2,3 +2,4 @@ pub mod Number
 pub mod Sound
 pub mod Writing
 pub mod Borders
+pub mod Said
