@@ -2,3 +2,4 @@ pub mod Inside
 pub mod Unseen
 pub mod Unique
 pub mod Said
+pub mod Borders

@@ -3,3 +3,4 @@ pub mod Split
 pub mod Inside
 pub mod Unseen
 pub mod Said
+pub mod Borders
