@@ -1,0 +1,4 @@
+pub mod Figures
+pub mod Faults
+pub mod Admitted
+pub mod Same

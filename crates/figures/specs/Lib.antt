@@ -1,0 +1,3 @@
+pub mod Figures
+pub mod Faults
+pub mod Admitted
