@@ -4,6 +4,7 @@ use mathlib.Core.Path.{_≡_, refl}
 use mathlib.Core.Bool.{Bool, true, false}
 use Prim.Native.Nat.{ℕ}
 use lib.Dec.{ltb}
+use Rattle.answers.proofs.Said.{one-value}
 use Rattle.frames.specs.Fields.{frameOf}
 use Rattle.frames.specs.declared.Frame.{Frame}
 use Rattle.frames.specs.declared.Frame.the-variants.{Padding, Ping, Ack, AckEcn, ResetStream, StopSending, Crypto, NewToken, Stream, MaxData, MaxStreamData, MaxStreams, DataBlocked, StreamDataBlocked, StreamsBlocked, NewConnectionId, RetireConnectionId, PathChallenge, PathResponse, ConnectionClose, ApplicationClose, HandshakeDone}
@@ -42,3 +43,7 @@ same (PathResponse at) = refl
 same (ConnectionClose a b at len) = refl
 same (ApplicationClose a at len) = refl
 same HandshakeDone = refl
+
+-- so that two frames with the same parts are one
+pub one-frame : (f g : Frame) → partsOf f ≡ partsOf g → f ≡ g
+one-frame = one-value partsOf frameOf same
