@@ -59,16 +59,16 @@ open-to c id n half four l = set-choice (c .opened) (id % 4) half (max (openedOf
     go (no x) = rw (ne-eqb (id % 4) half x)
 
 -- the stream that we open next is the one above those that are open
-next-is : (c : Conn) (ty : ℕ) → openedOf c (ty % 4) < 64 → calls.nextOf c ty ≡ 4 * openedOf c (ty % 4) + ty % 4
+pub next-is : (c : Conn) (ty : ℕ) → openedOf c (ty % 4) < 64 → calls.nextOf c ty ≡ 4 * openedOf c (ty % 4) + ty % 4
 unfolding idOf
 next-is c ty l = rw (lt-ltb (ty % 4) 4 (omega arith), lt-ltb (openedOf c (ty % 4)) (2 ^ 60) (omega arith)) refl
 
 -- an accepted call for it: one more of our streams is open
-record Opens (c : Conn) (ty : ℕ) : Type 0 where
-  ours : peers (ty % 4) ≡ false
-  room : openedOf c (ty % 4) < 64
+pub record Opens (c : Conn) (ty : ℕ) : Type 0 where
+  pub ours : peers (ty % 4) ≡ false
+  pub room : openedOf c (ty % 4) < 64
 
-opens-next : (c : Conn) (e : Entry) (ty : ℕ) → replyOf c e (OpenNext ty) ≡ Accepted → Opens c ty
+pub opens-next : (c : Conn) (e : Entry) (ty : ℕ) → replyOf c e (OpenNext ty) ≡ Accepted → Opens c ty
 unfolding replyOf
 opens-next c e ty h =
     let a = passed (not (oursType ty)) NotServed _ refl h in

@@ -7,4 +7,6 @@ pub mod Lifted
 pub mod Fitting
 pub mod Recorded
 pub mod Proved
+pub mod EachFrame
+pub mod Tied
 pub mod Refusals

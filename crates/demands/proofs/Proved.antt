@@ -1,18 +1,18 @@
 -- Demand 3 of the host's calls, packets included: what the host keeps is the state of the history of what was accepted, by Lifted, and of histories crate accounts has it.
 -- A packet that leaves the connection open has walked over all its frames.
 -- Assumes nothing.
-use Prim.Native.Nat.{ℕ, zero, suc, _+_, _-_, _≤_, _<_, _^_}
+use Prim.Native.Nat.{ℕ, zero, suc, _+_, _-_, _*_, _%_, _≤_, _<_, _^_}
 use mathlib.Core.Path.{_≡_, refl, sym, _∙_, ap, subst}
 use mathlib.Core.Bool.{Bool, true, false, not}
 use mathlib.Core.List.{List, [], _∷_, _++_}
 use native.Mathlib.Omega.{arith}
 use lib.ListN.{length}
-use lib.Dec.{leb, eqb}
+use lib.Dec.{ltb, leb, eqb}
 use borrow.Author.Tests.{le-ltb, le-leb, not-true, not-false}
 use Rattle.answers.specs.Choice.{_⇒_∣_}
 use Rattle.answers.specs.Answers.{numberOf, accepts}
 use Rattle.answers.specs.declared.Answer.{Answer}
-use Rattle.answers.specs.declared.Answer.the-variants.{DoesNotFit}
+use Rattle.answers.specs.declared.Answer.the-variants.{Accepted, DoesNotFit}
 use Rattle.answers.proofs.Accepts.{accepts-true}
 use Rattle.answers.proofs.Choice.{holds}
 use Rattle.answers.proofs.Distinct.{impossible}
@@ -26,12 +26,20 @@ use Rattle.frames.specs.Reading.{frameAt}
 use Rattle.frames.proofs.Sound.{frame-got}
 use Rattle.roundtrip.proofs.Readers.{stream-end}
 use Rattle.entries.specs.declared.Entry.{Entry}
+use Rattle.streams.specs.declared.Called.{Called}
 use Rattle.streams.specs.declared.Conn.{Conn}
 use Rattle.streams.specs.declared.Limits.{Limits}
 use Rattle.streams.specs.declared.Mark.the-variants.{Open, Code}
+use Rattle.streams.specs.declared.Space.{Space}
 use Rattle.halves.specs.Stream.{halfOf}
-use Rattle.entries.specs.Entry.{entryOf, finalOf}
-use Rattle.streams.specs.Conn.{isOpen, openedOf, countOf, nextOf}
+use Rattle.entries.specs.Entry.{mostCredit, entryAt, entryOf, finalOf}
+use Rattle.streams.specs.Conn.{isOpen, openedOf, countOf, nextOf, handedOutOf}
+use Rattle.calls.specs.declared.Call.{Call}
+use Rattle.calls.specs.declared.Call.the-variants.{OpenNext}
+use Rattle.calls.specs.declared.Replied.{Replied}
+use Rattle.calls.specs.Calls as calls
+use Rattle.calls.specs.Calls.{numberCalled, replyOf, ruledOf, repliedOf}
+use Rattle.local.specs.Calling.{callPlace, calledAt}
 use Rattle.views.specs.declared.View.{View}
 use Rattle.views.specs.declared.View.the-variants.{Ends}
 use Rattle.views.specs.View.{endOf, viewOf, streamIn}
@@ -50,10 +58,11 @@ use Rattle.accounts.proofs.Tests.{not-both, listed-has}
 use Rattle.accounts.proofs.Fits.{Fits, fits-test}
 use Rattle.accounts.proofs.Steps.{mark-fits}
 use Rattle.accounts.proofs.Owned.{always, owned}
-use Rattle.accounts.proofs.Advertised.{said, credit-said}
+use Rattle.accounts.proofs.Halves.{count-ours}
+use Rattle.accounts.proofs.Advertised.{next-is, opens-next, said, credit-said}
 use Rattle.accounts.proofs.Demand.{Running, verdict-is-own, neighbours-never, accounts, furthest-beyond}
-use Rattle.demands.specs.Hosts.{Act, answered, acted, kept, WasHosted, hosted, hostAfter}
-use Rattle.demands.specs.Hosts.Act.{TakeFrame, TakePacket}
+use Rattle.demands.specs.Hosts.{Act, answered, acted, numberGiven, kept, WasHosted, hosted, hostAfter}
+use Rattle.demands.specs.Hosts.Act.{TakeFrame, TakePacket, Make, HandOut}
 use Rattle.demands.specs.Heard.{Run, ended, asked, nextShown, shownBy, oneByOne, framesIn, callsOf, onto, noted, heardAfter, heardBy, withFrame, framesFrom, framesOf}
 use Rattle.demands.specs.Packets.{NoneWaved}
 use Rattle.demands.specs.Demand3.{Names, Enough, Fitted, Demand3, Independence}
@@ -108,6 +117,31 @@ ends-answer h v s at kind id end fin m =
     answer-is h v s at kind ∙ ap (λ (r : Reading). decided h kind at r .stepped .answer) (n .reads) ∙ settled-answer (verdictOf (h .conn) (entryOf (h .table) (streamIn (viewOf kind (n .frame)))) (viewOf kind (n .frame))) (h .conn) _ (n .ty) _ _
     ∙ sym (ruled-answer h (viewOf kind (n .frame)) v) ∙ ap (λ (w : View). answerOf h (Heard w)) (n .ends)
 
+-- ---- the numbers that are handed out
+
+handed-number : (c : Conn) (space : Space) → accepts (handedOutOf c space .answer) ≡ true → handedOutOf c space .number ≡ nextOf c space
+unfolding handedOutOf
+handed-number c space = holds (λ (x : Called). accepts (x .answer) ≡ true → x .number ≡ nextOf c space) (ltb mostCredit (nextOf c space)) _ _ (λ e a. impossible cc) (λ e a. refl)
+
+called-number : (h : State) (k : Call) → accepts (answered h (Make k)) ≡ true → (numberGiven h (Make k) ≡ numberCalled (h .conn) k) × (replyOf (h .conn) (entryAt (h .table) (callPlace k)) k ≡ Accepted)
+unfolding calledAt repliedOf ruledOf calls.settledOf
+called-number h k =
+    holds (λ (x : Called). accepts (x .answer) ≡ true → (x .number ≡ numberCalled (h .conn) k) × (reply ≡ Accepted)) (fits (h .conn) (h .table)) _ _ (λ f.
+    holds Gives (not (isOpen (h .conn .mark))) _ _ (λ o a. impossible cc) (λ o.
+    holds Gives (accepts reply) _ _ (λ p a. (refl, accepts-true _ p)) (λ p a. absurd (not-both _ a p)))) (λ f a. impossible cc)
+  where
+    reply : Answer
+    reply = replyOf (h .conn) (entryAt (h .table) (callPlace k)) k
+
+    Gives : Replied → Type 0
+    Gives r = accepts (r .called .answer) ≡ true → (r .called .number ≡ numberCalled (h .conn) k) × (reply ≡ Accepted)
+
+stream-number : (h : State) (ty : ℕ) → accepts (answered h (Make (OpenNext ty))) ≡ true → numberGiven h (Make (OpenNext ty)) ≡ 4 * countOf (h .conn) (halfOf ty) + halfOf ty
+stream-number h ty a =
+    let g = called-number h (OpenNext ty) a in
+    let p = opens-next (h .conn) _ ty (g .1) in
+    g .0 ∙ next-is (h .conn) ty (p .room) ∙ ap (λ (n : ℕ). 4 * n + halfOf ty) (sym (count-ours (h .conn) (halfOf ty) (p .ours)))
+
 -- ---- calls since opening
 
 module _ (o : Limits) (t : List Entry) (xs : List Act) (h : WasHosted o t) where
@@ -157,6 +191,8 @@ demand3 o t xs h =
       initial-is = kept-same o t xs h (λ s. s .conn .limits .initial) (λ s answer ty. refl) ∙ w .initial;
       each-open = λ half m. kept-same o t xs h (λ s. openedOf (s .conn) half) (λ s answer ty. refl) ∙ w .opened-is half m;
       each-next = λ space. kept-same o t xs h (λ s. nextOf (s .conn) space) (λ s answer ty. refl) ∙ w .next space;
+      number-given = λ space g. handed-number (hostAfter o t xs .conn) space g ∙ kept-same o t xs h (λ s. nextOf (s .conn) space) (λ s answer ty. refl) ∙ w .next space;
+      stream-given = λ ty g. stream-number (hostAfter o t xs) ty g ∙ ap (λ (n : ℕ). 4 * n + halfOf ty) (kept-same o t xs h (λ s. countOf (s .conn) (halfOf ty)) (count-closed (halfOf ty)) ∙ w .count (halfOf ty) (omega arith));
       total-within = omega (arith, kept-same o t xs h (λ s. s .conn .total) (λ s answer ty. refl), a .total-within);
       each-within = a .each-within;
       never-unfit = never o t xs h;
@@ -240,7 +276,7 @@ packet-heard h rs first s four p = go (accepts (begunOf (h .conn) rs (h .table) 
     go false a = ap (λ (r : Run). r .heard) (header-refused h rs first s a .none) ∙ sym (none-begun (h .conn) _ _ g s (begins (h .conn) rs (fits (h .conn) (h .table)) first s) a)
 
 -- what is called first and what is called then
-kept-then : (h : State) (xs ys : List Act) → kept h (xs ++ ys) ≡ kept (kept h xs) ys
+pub kept-then : (h : State) (xs ys : List Act) → kept h (xs ++ ys) ≡ kept (kept h xs) ys
 unfolding kept
 kept-then h [] ys = refl
 kept-then h (x ∷ xs) ys = kept-then (acted h x) xs ys

@@ -1,9 +1,10 @@
 -- Demand 3, in the host's terms: of every opening that was accepted on a lent table, and of whatever calls came since, packets and refused calls included.
 -- Limits and counts are those of the history too: of what opening advertised and what accepted calls raised (accounts `Advertised`), not what the connection holds, which is shown to be the same.
-use Prim.Native.Nat.{ℕ, _+_, _≤_, _<_}
+use Prim.Native.Nat.{ℕ, _+_, _*_, _≤_, _<_}
 use mathlib.Core.Path.{_≡_}
 use mathlib.Core.Bool.{Bool, true, false}
 use mathlib.Core.List.{List, [], _∷_, _++_}
+use Rattle.answers.specs.Answers.{accepts}
 use Rattle.answers.specs.declared.Answer.the-variants.{DoesNotFit}
 use Rattle.frames.specs.declared.Kind.{Kind}
 use Rattle.frames.specs.declared.Frame.the-variants.{Stream, ResetStream}
@@ -17,11 +18,12 @@ use Rattle.halves.specs.Stream.{halfOf, listed}
 use Rattle.entries.specs.Entry.{finalOf, entryOf}
 use Rattle.streams.specs.Conn.{openedOf, countOf, nextOf}
 use Rattle.rules.specs.Rules.{rule5}
+use Rattle.calls.specs.declared.Call.the-variants.{OpenNext}
 use Rattle.limits.specs.Fits.{sumTo}
 use Rattle.spaces.specs.Spaces.{recordsFit}
 use Rattle.accounts.specs.History.{own, furthest, finalNamed, ruling}
 use Rattle.accounts.specs.Advertised.{creditBy, streamCreditBy, countBy, openBy, nextBy, maySendBy, grantedBy}
-use Rattle.demands.specs.Hosts.{Act, answered, WasHosted, hostAfter}
+use Rattle.demands.specs.Hosts.{Act, answered, numberGiven, WasHosted, hostAfter}
 use Rattle.demands.specs.Hosts.Act.{TakeFrame, TakePacket, Make, HandOut}
 use Rattle.demands.specs.Heard.{heardBy}
 
@@ -56,6 +58,9 @@ pub record Demand3 (o : Limits) (t : List Entry) (xs : List Act) : Type 0 where
   pub initial-is : hostAfter o t xs .conn .limits .initial ≡ o .initial
   pub each-open : (half : ℕ) → half < 4 → openedOf (hostAfter o t xs .conn) half ≡ openBy (heardBy o t xs) half
   pub each-next : (space : Space) → nextOf (hostAfter o t xs .conn) space ≡ nextBy (heardBy o t xs) space
+  -- what is handed out is the next of these: "the next number of a space", "the next type 1 or 3 stream"
+  pub number-given : (space : Space) → accepts (answered (hostAfter o t xs) (HandOut space)) ≡ true → numberGiven (hostAfter o t xs) (HandOut space) ≡ nextBy (heardBy o t xs) space
+  pub stream-given : (ty : ℕ) → accepts (answered (hostAfter o t xs) (Make (OpenNext ty))) ≡ true → numberGiven (hostAfter o t xs) (Make (OpenNext ty)) ≡ 4 * countBy o (heardBy o t xs) (halfOf ty) + halfOf ty
   -- "It never exceeds the connection credit, nor any stream its own credit"
   pub total-within : hostAfter o t xs .conn .total ≤ creditBy o (heardBy o t xs)
   pub each-within : (id : ℕ) → furthest (heardBy o t xs) id ≤ streamCreditBy o (heardBy o t xs) id

@@ -55,6 +55,13 @@ recordsAfter h rs first s = tookOf (h .conn) rs (h .table) first s .records
 abbrev pub placeTold : State → Records → ℕ → List ℕ → ℕ
 placeTold h rs first s = tookOf (h .conn) rs (h .table) first s .place
 
+-- the number that a call hands out: the ID of the stream that was opened, or a packet number
+abbrev pub numberGiven : State → Act → ℕ
+numberGiven h (TakeFrame s at kind) = 0
+numberGiven h (TakePacket rs first s) = 0
+numberGiven h (Make call) = calledAt (h .conn) (h .table) call .number
+numberGiven h (HandOut space) = handedOutOf (h .conn) space .number
+
 -- after a list of calls, the first first; "untouched between calls"
 unfoldable pub kept : State → List Act → State
 kept h [] = h

@@ -4,5 +4,6 @@ pub mod Heard
 pub mod Packets
 pub mod Demand1
 pub mod Demand3
+pub mod EachFrame
 pub mod Recorded
 pub mod Kept
