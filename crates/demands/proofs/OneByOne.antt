@@ -35,7 +35,7 @@ use Rattle.steps.specs.Step.{requestOf, requestAt}
 use Rattle.steps.specs.Step.{shownAt}
 use Rattle.endings.specs.declared.Took.{Took}
 use Rattle.endings.specs.Finish.{tookAs, finishOf}
-use Rattle.walks.specs.Walk.{decidedAt, steppedAt, stepTable, stepHeard, stopped, Walked, ahead, walkFrom, walkAll}
+use Rattle.walks.specs.Walk.{decidedAt, steppedAt, stepTable, stopped, Walked, walkFrom, walkAll}
 use Rattle.receive.specs.Taking.{tookFrameOf, begunOf, tookOf, tookTable}
 use Rattle.accounts.specs.History.{Event, State}
 use Rattle.accounts.specs.History.Event.{Got as Heard}
@@ -73,10 +73,10 @@ module _ (h : State) (v : Live h) (s : List ℕ) (at : ℕ) (kind : Kind) where
 
   -- the walk's own step
   abbrev stop-here : Walked
-  stop-here = record { stop = stopped (steppedAt (h .conn) (h .table) s at kind .conn) at (steppedAt (h .conn) (h .table) s at kind .answer); table = stepTable (h .conn) (h .table) s at kind; heard = stepHeard (h .conn) (h .table) s at kind }
+  stop-here = record { stop = stopped (steppedAt (h .conn) (h .table) s at kind .conn) at (steppedAt (h .conn) (h .table) s at kind .answer); table = stepTable (h .conn) (h .table) s at kind }
 
   abbrev goes-on : (State → ℕ → Walked) → Walked
-  goes-on w = ahead (requestAt s at kind .view) (w (record { conn = steppedAt (h .conn) (h .table) s at kind .conn; table = stepTable (h .conn) (h .table) s at kind }) (steppedAt (h .conn) (h .table) s at kind .next))
+  goes-on w = w (record { conn = steppedAt (h .conn) (h .table) s at kind .conn; table = stepTable (h .conn) (h .table) s at kind }) (steppedAt (h .conn) (h .table) s at kind .next)
 
   more-is : steppedAt (h .conn) (h .table) s at kind .more ≡ isOpen (acted h x .conn .mark)
   unfolding decidedAt requestAt
@@ -246,7 +246,7 @@ is-frames h rs first s four a = is-one-by-one h rs first s four a
 -- ---- a packet that is refused before its frames
 
 -- from the end of the bytes on there is nothing to walk
-pub walk-none : (k : ℕ) (c : Conn) (t : List Entry) (s : List ℕ) (kind : Kind) → walkFrom k c t s (length s) kind ≡ record { stop = stopped c (length s) Accepted; table = t; heard = [] }
+pub walk-none : (k : ℕ) (c : Conn) (t : List Entry) (s : List ℕ) (kind : Kind) → walkFrom k c t s (length s) kind ≡ record { stop = stopped c (length s) Accepted; table = t }
 unfolding walkFrom
 walk-none zero c t s kind = refl
 walk-none (suc k) c t s kind = rw (le-leb (length s) (length s) (omega arith)) refl

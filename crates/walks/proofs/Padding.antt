@@ -28,7 +28,7 @@ use Rattle.steps.specs.Past.{pastOf, pastZeros, pastPadding}
 use Rattle.answers.proofs.Choice.{holds, through}
 use Rattle.walks.specs.Walk.{decidedAt, stopped, Walked, walkFrom}
 
--- where a walk stopped and the table, whatever it heard
+-- where a walk stopped and the table, as a pair
 abbrev pub bare : Walked → Stopped × List Entry
 bare w = (w .stop, w .table)
 

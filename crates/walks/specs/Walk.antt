@@ -1,17 +1,15 @@
 -- The walk over the frames of a payload, document 01: "The walk stops at the first frame that is refused: frames before it stay applied, it changes nothing itself".
 use Prim.Native.Nat.{ℕ, zero, suc, _-_}
-use mathlib.Core.List.{List, [], _∷_}
+use mathlib.Core.List.{List}
 use lib.ListN.{length, set}
 use lib.Dec.{leb}
 use Rattle.answers.specs.Choice.{_⇒_∣_}
-use Rattle.answers.specs.Answers.{accepts}
 use Rattle.answers.specs.declared.Answer.{Answer}
 use Rattle.answers.specs.declared.Answer.the-variants.{Accepted}
 use Rattle.frames.specs.declared.Kind.{Kind}
 use Rattle.streams.specs.declared.Conn.{Conn}
 use Rattle.entries.specs.declared.Entry.{Entry}
 use Rattle.entries.specs.Entry.{entryAt}
-use Rattle.views.specs.declared.View.{View}
 use Rattle.steps.specs.declared.Stepped.{Stepped}
 use Rattle.steps.specs.declared.Stopped.{Stopped}
 use Rattle.steps.specs.declared.Decided.{Decided}
@@ -27,32 +25,21 @@ steppedAt c t s at kind = decidedAt c t s at kind .stepped
 abbrev pub stepTable : Conn → List Entry → List ℕ → ℕ → Kind → List Entry
 stepTable c t s at kind = set t (requestAt s at kind .place) (decidedAt c t s at kind .entry)
 
--- what it asked of the streams, where it was accepted
-abbrev pub stepHeard : Conn → List Entry → List ℕ → ℕ → Kind → List View
-stepHeard c t s at kind =
-    accepts (steppedAt c t s at kind .answer) ⇒ requestAt s at kind .view ∷ []
-    ∣ []
-
 abbrev pub stopped : Conn → ℕ → Answer → Stopped
 stopped c place answer = record { conn = c; place = place; answer = answer }
 
--- what a walk leaves: where it stopped and the connection then, the table, and what the accepted frames asked of the streams, one after the other
+-- what a walk leaves: where it stopped and the connection then, and the table
 pub record Walked : Type 0 where
   pub stop : Stopped
   pub table : List Entry
-  pub heard : List View
-
--- with one accepted frame before
-abbrev pub ahead : View → Walked → Walked
-ahead view w = record { stop = w .stop; table = w .table; heard = view ∷ w .heard }
 
 -- k frames at most, from a place on: to the end of the bytes, or to the frame that is refused or closes the connection
 unfoldable pub walkFrom : ℕ → Conn → List Entry → List ℕ → ℕ → Kind → Walked
-walkFrom zero c t s at kind = record { stop = stopped c at Accepted; table = t; heard = [] }
+walkFrom zero c t s at kind = record { stop = stopped c at Accepted; table = t }
 walkFrom (suc k) c t s at kind =
-    leb (length s) at ⇒ record { stop = stopped c at Accepted; table = t; heard = [] }
-    ∣ steppedAt c t s at kind .more ⇒ ahead (requestAt s at kind .view) (walkFrom k (steppedAt c t s at kind .conn) (stepTable c t s at kind) s (steppedAt c t s at kind .next) kind)
-    ∣ record { stop = stopped (steppedAt c t s at kind .conn) at (steppedAt c t s at kind .answer); table = stepTable c t s at kind; heard = stepHeard c t s at kind }
+    leb (length s) at ⇒ record { stop = stopped c at Accepted; table = t }
+    ∣ steppedAt c t s at kind .more ⇒ walkFrom k (steppedAt c t s at kind .conn) (stepTable c t s at kind) s (steppedAt c t s at kind .next) kind
+    ∣ record { stop = stopped (steppedAt c t s at kind .conn) at (steppedAt c t s at kind .answer); table = stepTable c t s at kind }
 
 -- there are no more frames than bytes
 abbrev pub walkAll : Conn → List Entry → List ℕ → ℕ → Kind → Walked
