@@ -4,6 +4,4 @@ pub mod None
 pub mod Same
 pub mod Window
 pub mod Taking
-pub mod History
-pub mod Borders
 pub mod Unique

@@ -5,10 +5,10 @@ use mathlib.Core.List.{List, [], _∷_, _++_, map}
 use Prim.Native.Nat.{ℕ, _+_, _-_, _^_}
 use lib.ListN.{replicate}
 use Rattle.answers.specs.Answers.{numberOf}
 use Rattle.records.specs.declared.Record.{Record}
 use Rattle.records.specs.Marks.{noneOf, soundOf}
 use Rattle.records.specs.Ring.{takenOf}
-use Rattle.records.specs.History.{answerAfter, takenNumbers}
+use Rattle.windows.specs.History.{answerAfter, takenNumbers}
 
 -- a record that marks 0, or another number of its slot, alone
 abbrev pub firstSlot : ℕ → Record

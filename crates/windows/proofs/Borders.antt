@@ -2,10 +2,10 @@
 -- Assumes nothing.
 use mathlib.Core.Path.{refl}
 use Rattle.ring.specs.Bits.{bit, bitAt, unmarked}
 use Rattle.records.specs.Marks.{recorded, noneOf, soundOf}
 use Rattle.records.specs.Ring.{wordOf, listOf, slotOf, ringOf, withMark, takenOf}
-use Rattle.records.specs.History.{isAmong, aboveAll, answerAfter, takenNumbers}
-use Rattle.records.specs.Borders.{Borders}
+use Rattle.windows.specs.History.{isAmong, aboveAll, answerAfter, takenNumbers}
+use Rattle.windows.specs.Borders.{Borders}
 
 pub borders : Borders
 unfolding bit bitAt unmarked recorded noneOf soundOf wordOf listOf slotOf ringOf withMark takenOf isAmong aboveAll answerAfter takenNumbers

@@ -12,12 +12,12 @@ use Rattle.answers.specs.Choice.{_⇒_∣_}
 use Rattle.answers.specs.declared.Answer.the-variants.{Accepted, InRecord}
 use Rattle.answers.proofs.Accepts.{accepts-true, takes}
 use Rattle.answers.proofs.Choice.{holds, below-or-not}
 use Rattle.records.specs.declared.Record.{Record}
 use Rattle.records.specs.Marks.{recorded, noneOf, soundOf}
 use Rattle.records.specs.Ring.{ringOf, withMark, left, takenOf}
-use Rattle.records.specs.History.{recordAfter, isAmong, aboveAll, answerAfter, takenNumbers, Holds}
+use Rattle.windows.specs.History.{recordAfter, isAmong, aboveAll, answerAfter, takenNumbers, Holds}
 use Rattle.records.proofs.None.{none-fits, none-recorded}
 use Rattle.records.proofs.Taking.{can-be, accepts as accepted, leaves, added, still-fits}
 
 -- what is answered next follows from what the record holds, and from that it fits
 module _ (l : List ℕ) (R : Record) (fit : soundOf R ≡ true) (high : R .top ≡ aboveAll l) (held : (m : ℕ) → recorded R m ≡ (leb (aboveAll l) (m + 8192) && isAmong m l)) where
