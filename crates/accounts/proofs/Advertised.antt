@@ -2,43 +2,41 @@
 -- Assumes nothing.
 use Prim.Native.Nat.{ℕ, zero, suc, _+_, _-_, _*_, _/_, _%_, _≤_, _<_, max, _^_}
 use mathlib.Core.Path.{_≡_, refl, sym, _∙_, ap, subst}
-use mathlib.Core.Bool.{Bool, true, false, not, _&&_, _||_, and-eq-true-iff}
+use mathlib.Core.Bool.{Bool, true, false, not, and-eq-true-iff}
 use mathlib.Core.List.{List, [], _∷_}
 use native.Mathlib.Omega.{arith}
 use native.Mathlib.Decide.{ℕ-discrete, decLe}
 use lib.ListN.{getD, set, length, length-set, List·getD-eq-default}
 use lib.Seq.{getD-set-same, getD-set-other}
 use lib.Dec.{ltb, leb, eqb}
-use borrow.Author.Tests.{lt-ltb, eq-eqb, ne-eqb, ltb-true, leb-false, not-false, not-true}
+use borrow.Author.Tests.{lt-ltb, eq-eqb, ne-eqb, leb-false, not-false, not-true}
 use Rattle.answers.specs.Choice.{_⇒_∣_}
-use Rattle.answers.specs.declared.Answer.the-variants.{Accepted, StreamLimit, StreamState, NotServed, AboveCeiling}
+use Rattle.answers.specs.declared.Answer.the-variants.{Accepted, NotServed, AboveCeiling}
 use Rattle.answers.proofs.Accepts.{passed}
 use Rattle.answers.proofs.Choice.{holds}
 use Rattle.answers.proofs.Distinct.{impossible}
 use Rattle.streams.specs.declared.Conn.{Conn}
 use Rattle.entries.specs.declared.Entry.{Entry}
 use Rattle.streams.specs.declared.Limits.{Limits}
-use Rattle.streams.specs.declared.Mark.{Mark}
 use Rattle.streams.specs.declared.Mark.the-variants.{Open}
 use Rattle.streams.specs.declared.Space.{Space}
 use Rattle.streams.specs.declared.Space.the-variants.{Initial, Handshake, Application}
-use Rattle.halves.specs.Stream.{streamOf, halfOf, ordinalOf, idOf, peers, receives, mostStreams, listed, placeOf}
+use Rattle.halves.specs.Stream.{idOf, peers, mostStreams, listed, placeOf}
 use Rattle.entries.specs.Entry.{fresh, reached, credited, entryAt, entryOf}
 use Rattle.streams.specs.Conn.{limitedTo, advertisedOf, initialOf, withCount, openedOf, countOf, openTo, indexOf, nextOf, handedOn}
 use Rattle.opening.specs.Opening.{openedConn}
 use Rattle.views.specs.declared.View.the-variants.{Ends, Blocks, ForSender, Acks, Closes, Nothing}
-use Rattle.rules.specs.Rules.{rule1, rule2, endsOf, blockedOf, forSenderOf}
 use Rattle.verdicts.specs.Verdict.{verdictOf, connHeard, entryHeard}
 use Rattle.calls.specs.declared.Call.the-variants.{RaiseCredit, RaiseStream, RaiseCount, OpenNext}
 use Rattle.calls.specs.Calls as calls
 use Rattle.calls.specs.Calls.{peersType, oursType, replyOf}
-use Rattle.accounts.specs.History.{Event, looksAt, ruledOf, connAfter, entryAfter, State, after, opened, stateOf, AllAccepted}
+use Rattle.accounts.specs.History.{Event, looksAt, ruledOf, connAfter, entryAfter, after, opened, stateOf, AllAccepted}
 use Rattle.accounts.specs.History.Event.{Got, Did, Gave}
 use Rattle.accounts.specs.Advertised.{credits, creditBy, lifts, streamCreditBy, counts, countBy, upTo, opens, openBy, hands, nextBy, marks, markBy}
 use Rattle.accounts.proofs.Tests.{Has, has-listed, listed-has, place-is}
 use Rattle.accounts.proofs.Fits.{Fits, ConnOk}
 use Rattle.accounts.proofs.Halves.{count-peers, count-ours}
-use Rattle.accounts.proofs.Steps.{taken, has, passes, blocks-below, send-below, raise-has, peers-two, same-half}
+use Rattle.accounts.proofs.Steps.{taken, passes, blocks-below, send-below, raise-has, same-half}
 use Rattle.accounts.proofs.Owned.{always, table-at, none-open}
 
 -- ---- what is open

@@ -10,7 +10,7 @@ use native.Mathlib.Decide.{decLe}
 use lib.ListN.{set, length, length-set}
 use lib.Seq.{set-getD, getD-set-same}
 use lib.Dec.{ltb, leb, eqb}
-use borrow.Author.Tests.{lt-ltb, le-leb, eq-eqb, ltb-true, ltb-false, leb-false, eqb-true, eqb-false, not-true, not-false}
+use borrow.Author.Tests.{lt-ltb, le-leb, ltb-true, ltb-false, leb-false, eqb-true, not-true, not-false}
 use Rattle.answers.specs.Choice.{_⇒_∣_}
 use Rattle.answers.specs.declared.Answer.the-variants.{Accepted, StreamLimit, StreamState, Closed, NotAbove, AboveCeiling, NotServed, SizeKnown, DoesNotFit}
 use Rattle.answers.proofs.Accepts.{passed}
@@ -22,9 +22,9 @@ use Rattle.entries.specs.declared.Final.the-variants.{Known}
 use Rattle.streams.specs.declared.Mark.{Mark}
 use Rattle.streams.specs.declared.Mark.the-variants.{ByPeer}
 use Rattle.streams.specs.declared.Space.{Space}
-use Rattle.halves.specs.Stream.{streamOf, halfOf, ordinalOf, idOf, peers, receives, sends, mostStreams, placeOf}
+use Rattle.halves.specs.Stream.{streamOf, idOf, peers, receives, sends, mostStreams, placeOf}
 use Rattle.entries.specs.Entry.{mostCredit, finalOf, isKnown, fresh, reached, credited, entryOf}
-use Rattle.streams.specs.Conn.{isOpen, markedAs, limitedTo, advertisedOf, initialOf, withCredit, withCount, openedOf, countOf, openTo, handedOn}
+use Rattle.streams.specs.Conn.{isOpen, markedAs, limitedTo, initialOf, withCredit, withCount, openedOf, countOf, openTo, handedOn}
 use Rattle.views.specs.declared.View.the-variants.{Ends, Blocks, ForSender, Acks, Closes, Nothing}
 use Rattle.rules.specs.Rules.{rule1, rule2, against, rule3, endsOf, blockedOf, forSenderOf}
 use Rattle.verdicts.specs.Verdict.{verdictOf, connHeard, entryHeard}

@@ -1,10 +1,10 @@
 -- Histories: a connection with its lent table from opening on, and what the accepted frames and calls alone say of each stream.
-use Prim.Native.Nat.{ℕ, zero, suc, _/_, _≤_, max}
+use Prim.Native.Nat.{ℕ, zero, suc, _/_, max}
 use mathlib.Core.Path.{_≡_}
-use mathlib.Core.Bool.{Bool, true, false, _&&_, not}
+use mathlib.Core.Bool.{Bool, true, false, not}
 use mathlib.Core.List.{List, [], _∷_}
 use lib.ListN.{set}
-use lib.Dec.{ltb, eqb}
+use lib.Dec.{eqb}
 use Rattle.answers.specs.Choice.{_⇒_∣_}
 use Rattle.answers.specs.declared.Answer.{Answer}
 use Rattle.answers.specs.declared.Answer.the-variants.{Accepted, FlowControl, StreamLimit, StreamState, FinalSize, Closed, DoesNotFit}
@@ -15,9 +15,9 @@ use Rattle.entries.specs.declared.Final.the-variants.{Unknown, Known}
 use Rattle.streams.specs.declared.Limits.{Limits}
 use Rattle.streams.specs.declared.Mark.the-variants.{Open}
 use Rattle.streams.specs.declared.Space.{Space}
-use Rattle.halves.specs.Stream.{streamOf, halfOf, ordinalOf, receives, mostStreams, entries, listed, placeOf}
+use Rattle.halves.specs.Stream.{streamOf, mostStreams, entries, placeOf}
 use Rattle.entries.specs.Entry.{fresh, entryOf}
-use Rattle.streams.specs.Conn.{isOpen, initialOf, countOf, handedOn, handedOutOf}
+use Rattle.streams.specs.Conn.{isOpen, initialOf, handedOn, handedOutOf}
 use Rattle.opening.specs.Opening.{openedConn, openingOf}
 use Rattle.views.specs.declared.View.{View}
 use Rattle.views.specs.declared.View.the-variants.{Ends, Blocks, ForSender, Acks, Closes, Nothing}
@@ -27,7 +27,7 @@ use Rattle.verdicts.specs.Verdict.{verdictOf, connHeard, entryHeard}
 use Rattle.calls.specs.declared.Call.{Call}
 use Rattle.calls.specs.Calls as calls
 use Rattle.calls.specs.Calls.{replyOf, connCalled, entryCalled}
-use Rattle.limits.specs.Fits.{sumTo, fits}
+use Rattle.limits.specs.Fits.{fits}
 
 -- ---- events: what a frame asked, a local call, and a packet number handed out
 

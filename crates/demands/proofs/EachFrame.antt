@@ -1,31 +1,23 @@
 -- Every frame of a packet is judged as by the call for one frame, on what the accepted frames before it left: so demand 3's verdict is the verdict on it.
 -- Assumes nothing.
-use Prim.Native.Nat.{ℕ, zero, suc, _-_}
+use Prim.Native.Nat.{ℕ, _-_}
 use mathlib.Core.Path.{_≡_, refl, sym, _∙_, ap, subst}
-use mathlib.Core.Bool.{Bool, true, false, not}
 use mathlib.Core.List.{List, [], _∷_, _++_}
 use lib.ListN.{length}
-use lib.Dec.{leb}
-use borrow.Author.Tests.{not-true, not-false}
-use Rattle.answers.specs.Choice.{_⇒_∣_}
 use Rattle.answers.specs.Answers.{accepts}
-use Rattle.answers.specs.declared.Answer.{Answer}
 use Rattle.answers.specs.declared.Answer.the-variants.{Accepted}
 use Rattle.answers.proofs.Accepts.{accepts-true}
 use Rattle.answers.proofs.Choice.{holds}
 use Rattle.answers.proofs.Distinct.{impossible}
 use Rattle.frames.specs.declared.Kind.{Kind}
-use Rattle.entries.specs.declared.Entry.{Entry}
-use Rattle.streams.specs.declared.Limits.{Limits}
-use Rattle.streams.specs.Conn.{isOpen}
 use Rattle.spaces.specs.declared.Records.{Records}
 use Rattle.receive.specs.Taking.{begunOf}
 use Rattle.accounts.specs.History.{State}
-use Rattle.demands.specs.Hosts.{Act, answered, acted, kept, WasHosted, hosted, hostAfter}
-use Rattle.demands.specs.Hosts.Act.{TakeFrame, TakePacket}
-use Rattle.demands.specs.Heard.{Run, ended, nextShown, shownBy, oneByOne, framesIn}
+use Rattle.demands.specs.Hosts.{Act, answered, acted, kept, hosted, hostAfter}
+use Rattle.demands.specs.Hosts.Act.{TakeFrame}
+use Rattle.demands.specs.Heard.{oneByOne, framesIn}
 use Rattle.demands.specs.EachFrame.{EachJudged, PacketVerdicts}
-use Rattle.demands.proofs.OneByOne.{is-frames, frames-are}
+use Rattle.demands.proofs.OneByOne.{by-frames, is-frames}
 use Rattle.demands.proofs.Lifted.{four-of, lifted}
 use Rattle.demands.proofs.Proved.{demand3, kept-then}
 
@@ -34,61 +26,37 @@ not-empty : {G : Type 0} (before later : List Act) (y : Act) → _≡_ {A = List
 not-empty [] later y e = impossible cc
 not-empty (z ∷ before) later y e = impossible cc
 
-abbrev Judges : State → List Act → List Act → Act → Run → Type 0
-Judges h before later y r = r .accepted ≡ before ++ (y ∷ later) → answered (kept h before) y ≡ Accepted
-
-each-accepted : (k : ℕ) (h : State) (s : List ℕ) (at : ℕ) (kind : Kind) (before later : List Act) (y : Act) → Judges h before later y (oneByOne k h s at kind)
-unfolding oneByOne kept
-each-accepted zero h s at kind before later y = not-empty before later y
-each-accepted (suc k) h s at kind before later y =
-    holds (Judges h before later y) (leb (length s) at) _ _ (λ e. not-empty before later y) (λ e.
-    holds (Judges h before later y) (not (accepts (answered h x))) _ _ (λ a. not-empty before later y) (λ a.
-    inner before (accepts-true _ (not-false _ a)) (λ rest. each-accepted k (acted h x) s (nextShown at (shownBy h s at kind)) kind rest later y)))
+each-accepted : (s : List ℕ) (kind : Kind) (k : ℕ) (h : State) (at : ℕ) (before later : List Act) (y : Act) → oneByOne k h s at kind .accepted ≡ before ++ (y ∷ later) → answered (kept h before) y ≡ Accepted
+unfolding kept
+each-accepted s kind =
+    by-frames s kind (λ h at r. Judges h (r .accepted)) (λ h at before later y. not-empty before later y) (λ h at a before later y. not-empty before later y)
+    (λ h at a. inner h (TakeFrame s at kind) [] (accepts-true _ a) (λ before later y. not-empty before later y)) (λ h at r a. inner h (TakeFrame s at kind) (r .accepted) (accepts-true _ a))
   where
-    x : Act
-    x = TakeFrame s at kind
+    Judges : State → List Act → Type 0
+    Judges h xs = (before later : List Act) (y : Act) → xs ≡ before ++ (y ∷ later) → answered (kept h before) y ≡ Accepted
 
-    further : Run
-    further = oneByOne k (acted h x) s (nextShown at (shownBy h s at kind)) kind
-
-    rest : Run
-    rest = not (isOpen (acted h x .conn .mark)) ⇒ ended at ∣ further
-
-    inner : (front : List Act) → answered h x ≡ Accepted → ((front : List Act) → Judges (acted h x) front later y further) → x ∷ rest .accepted ≡ front ++ (y ∷ later) → answered (kept h front) y ≡ Accepted
-    inner [] a ih e = let p : x ≡ y = cc in subst (λ (z : Act). answered h z ≡ Accepted) p a
-    inner (z ∷ front) a ih e =
+    -- the first of them, or one of the others
+    inner : (h : State) (x : Act) (xs : List Act) → answered h x ≡ Accepted → Judges (acted h x) xs → Judges h (x ∷ xs)
+    inner h x xs a ih [] later y e = let p : x ≡ y = cc in subst (λ (z : Act). answered h z ≡ Accepted) p a
+    inner h x xs a ih (z ∷ before) later y e =
         let p : x ≡ z = cc in
-        let q : rest .accepted ≡ front ++ (y ∷ later) = cc in
-        subst (λ (w : Act). answered (kept (acted h w) front) y ≡ Accepted) p
-        (holds (Judges (acted h x) front later y) (not (isOpen (acted h x .conn .mark))) (ended at) further (λ o. not-empty front later y) (λ o. ih front) q)
+        let q : xs ≡ before ++ (y ∷ later) = cc in
+        subst (λ (w : Act). answered (kept (acted h w) before) y ≡ Accepted) p (ih before later y q)
 
-abbrev Refuses : State → Act → List Act → Run → Type 0
-Refuses h y later r = r .refused ≡ y ∷ later → answered (kept h (r .accepted)) y ≡ r .answer
+one-refused : (s : List ℕ) (kind : Kind) (k : ℕ) (h : State) (at : ℕ) (y : Act) (later : List Act) → oneByOne k h s at kind .refused ≡ y ∷ later → answered (kept h (oneByOne k h s at kind .accepted)) y ≡ oneByOne k h s at kind .answer
+unfolding kept
+one-refused s kind =
+    by-frames s kind (λ h at r. (y : Act) (later : List Act) → r .refused ≡ y ∷ later → answered (kept h (r .accepted)) y ≡ r .answer) (λ h at y later e. impossible cc)
+    (λ h at a y later e. let p : y ≡ TakeFrame s at kind = cc in ap (answered h) p) (λ h at a y later e. impossible cc) (λ h at r a ih. ih)
 
-one-refused : (k : ℕ) (h : State) (s : List ℕ) (at : ℕ) (kind : Kind) (y : Act) (later : List Act) → Refuses h y later (oneByOne k h s at kind)
-unfolding oneByOne kept
-one-refused zero h s at kind y later = λ e. impossible cc
-one-refused (suc k) h s at kind y later =
-    holds (Refuses h y later) (leb (length s) at) _ _ (λ e f. impossible cc) (λ e.
-    holds (Refuses h y later) (not (accepts (answered h (TakeFrame s at kind)))) _ _ (λ a f. let p : y ≡ TakeFrame s at kind = cc in ap (answered h) p) (λ a.
-    holds (Refuses (acted h (TakeFrame s at kind)) y later) (not (isOpen (acted h (TakeFrame s at kind) .conn .mark))) _ _ (λ o f. impossible cc) (λ o. one-refused k (acted h (TakeFrame s at kind)) s (nextShown at (shownBy h s at kind)) kind y later)))
-
-abbrev Passes : Run → Type 0
-Passes r = r .refused ≡ [] → r .answer ≡ Accepted
-
-none-refused : (k : ℕ) (h : State) (s : List ℕ) (at : ℕ) (kind : Kind) → Passes (oneByOne k h s at kind)
-unfolding oneByOne
-none-refused zero h s at kind = λ e. refl
-none-refused (suc k) h s at kind =
-    holds Passes (leb (length s) at) _ _ (λ e f. refl) (λ e.
-    holds Passes (not (accepts (answered h (TakeFrame s at kind)))) _ _ (λ a f. impossible cc) (λ a.
-    holds Passes (not (isOpen (acted h (TakeFrame s at kind) .conn .mark))) _ _ (λ o f. refl) (λ o. none-refused k (acted h (TakeFrame s at kind)) s (nextShown at (shownBy h s at kind)) kind)))
+none-refused : (s : List ℕ) (kind : Kind) (k : ℕ) (h : State) (at : ℕ) → oneByOne k h s at kind .refused ≡ [] → oneByOne k h s at kind .answer ≡ Accepted
+none-refused s kind = by-frames s kind (λ h at r. r .refused ≡ [] → r .answer ≡ Accepted) (λ h at e. refl) (λ h at a e. impossible cc) (λ h at a e. refl) (λ h at r a ih. ih)
 
 pub each-judged : (h : State) (rs : Records) (first : ℕ) (s : List ℕ) → EachJudged h (framesIn h rs first s)
 unfolding framesIn
 each-judged h rs first s =
     holds (EachJudged h) (accepts (begunOf (h .conn) rs (h .table) first s .answer)) _ _
-    (λ a. let g = begunOf (h .conn) rs (h .table) first s in record { each-accepted = each-accepted (length s - g .at) h s (g .at) (g .kind); one-refused = one-refused (length s - g .at) h s (g .at) (g .kind); none-refused = none-refused (length s - g .at) h s (g .at) (g .kind) })
+    (λ a. let g = begunOf (h .conn) rs (h .table) first s in record { each-accepted = each-accepted s (g .kind) (length s - g .at) h (g .at); one-refused = one-refused s (g .kind) (length s - g .at) h (g .at); none-refused = none-refused s (g .kind) (length s - g .at) h (g .at) })
     (λ a. record { each-accepted = λ before later x. not-empty before later x; one-refused = λ x later e. impossible cc; none-refused = λ e. refl })
 
 pub packet-verdicts : PacketVerdicts

@@ -1,19 +1,17 @@
 -- 120 never comes of the host's own calls: the records that a packet leaves fit again, and where the table and the records fit no call answers 120.
 -- Every other answer is named where it is given, and none of these is 120.
 -- Assumes nothing.
-use Prim.Native.Nat.{ℕ, zero, suc, _-_, _^_}
+use Prim.Native.Nat.{ℕ, zero, suc, _-_}
 use mathlib.Core.Path.{_≡_, refl}
-use mathlib.Core.Bool.{Bool, true, false, not, _&&_, _||_, and-eq-true-iff}
-use mathlib.Core.List.{List, [], _∷_}
+use mathlib.Core.Bool.{Bool, true, false, not, _||_, and-eq-true-iff}
+use mathlib.Core.List.{List}
 use lib.Dec.{ltb, leb, eqb}
 use lib.ListN.{length}
 use Rattle.answers.specs.Answers.{numberOf}
 use Rattle.answers.specs.declared.Answer.{Answer}
-use Rattle.answers.specs.declared.Answer.the-variants.{Accepted, FlowControl, StreamLimit, StreamState, FinalSize, ProtocolViolation, Closed, NotAbove, AboveCeiling, NotServed, SizeKnown}
+use Rattle.answers.specs.declared.Answer.the-variants.{Accepted, NotAbove, AboveCeiling, NotServed, SizeKnown}
 use Rattle.answers.proofs.Choice.{holds}
 use Rattle.frames.specs.declared.Kind.{Kind}
-use Rattle.frames.specs.declared.Reading.{Reading}
-use Rattle.frames.specs.declared.Reading.the-variants.{Got, Refused}
 use Rattle.frames.specs.Reading.{frameAt}
 use Rattle.records.specs.declared.Record.{Record}
 use Rattle.records.specs.Marks.{soundOf, noneOf}
@@ -27,13 +25,10 @@ use Rattle.verdicts.specs.declared.Judged.{Judged}
 use Rattle.streams.specs.declared.Mark.{Mark}
 use Rattle.streams.specs.declared.Space.{Space}
 use Rattle.streams.specs.declared.Space.the-variants.{Initial, Handshake, Application}
-use Rattle.views.specs.declared.View.{View}
-use Rattle.views.specs.declared.View.the-variants.{Ends, Blocks, ForSender, Acks, Closes, Nothing}
-use Rattle.halves.specs.Stream.{streamOf, halfOf, ordinalOf, peers, receives, sends, mostStreams}
+use Rattle.halves.specs.Stream.{halfOf, ordinalOf, receives, mostStreams}
 use Rattle.entries.specs.Entry.{mostCredit, finalOf, isKnown, entryAt}
 use Rattle.streams.specs.Conn.{isOpen, openedOf, countOf, nextOf, handedOutOf, spaceOf}
-use Rattle.rules.specs.Rules.{rule1, rule2, rule3, rule4, rule5, endsOf, blockedOf, forSenderOf}
-use Rattle.verdicts.specs.Verdict.{verdictOf, settledOf, judgedOf}
+use Rattle.verdicts.specs.Verdict.{settledOf}
 use Rattle.calls.specs.declared.Call.{Call}
 use Rattle.calls.specs.declared.Call.the-variants.{RaiseCredit, RaiseStream, RaiseCount, OpenNext}
 use Rattle.calls.specs.declared.Replied.{Replied}
@@ -41,19 +36,16 @@ use Rattle.calls.specs.Calls as calls
 use Rattle.calls.specs.Calls.{raiseOf, peersType, oursType, replyOf, ruledOf, repliedOf}
 use Rattle.answers.specs.Answers.{accepts}
 use Rattle.limits.specs.Fits.{fits}
-use Rattle.streams.specs.declared.Limits.{Limits}
 use Rattle.accounts.proofs.Tests.{not-both}
 use Rattle.answers.proofs.Accepts.{accepts-true}
-use Rattle.steps.specs.declared.Request.{Request}
 use Rattle.packets.specs.declared.Begun.{Begun}
 use Rattle.spaces.specs.declared.Records.{Records}
 use Rattle.steps.specs.declared.Stopped.{Stopped}
 use Rattle.endings.specs.declared.Took.{Took}
 use Rattle.steps.specs.declared.TookFrame.{TookFrame}
 use Rattle.steps.specs.declared.Gate.{Gate}
-use Rattle.steps.specs.declared.Decided.{Decided}
 use Rattle.spaces.specs.Spaces.{recordsFit, recordedOf}
-use Rattle.steps.specs.Step.{requestOf, requestAt, decidedOf}
+use Rattle.steps.specs.Step.{requestAt}
 use Rattle.packets.specs.Begin as begin
 use Rattle.endings.specs.Finish.{finishOf}
 use Rattle.steps.specs.Gate.{gateOf}

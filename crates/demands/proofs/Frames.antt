@@ -12,7 +12,7 @@ use borrow.Author.Tests.{not-false}
 use Rattle.answers.specs.Choice.{_⇒_∣_}
 use Rattle.answers.specs.Answers.{accepts}
 use Rattle.answers.specs.declared.Answer.{Answer}
-use Rattle.answers.specs.declared.Answer.the-variants.{Accepted, FlowControl, StreamLimit, StreamState, FinalSize, FrameEncoding, ProtocolViolation}
+use Rattle.answers.specs.declared.Answer.the-variants.{Accepted, FlowControl, StreamLimit, StreamState, FinalSize, FrameEncoding, ProtocolViolation, Closed, DoesNotFit}
 use Rattle.answers.proofs.Accepts.{accepts-true}
 use Rattle.answers.proofs.Choice.{holds}
 use Rattle.answers.proofs.Distinct.{impossible}
@@ -34,7 +34,7 @@ use Rattle.frames.specs.Admission.{admitted}
 use Rattle.frames.specs.Fields.{frameOf, fieldsAt}
 use Rattle.frames.specs.Reading.{withHead, admittedHead, frameAt}
 use Rattle.frames.proofs.Codes.{codes}
-use Rattle.halves.specs.Stream.{streamOf, halfOf, peers, sends, placeOf}
+use Rattle.halves.specs.Stream.{streamOf, halfOf, peers, sends}
 use Rattle.streams.specs.declared.Conn.{Conn}
 use Rattle.entries.specs.declared.Entry.{Entry}
 use Rattle.streams.specs.declared.Mark.{Mark}
@@ -58,13 +58,13 @@ use Rattle.walks.specs.Walk.{decidedAt}
 use Rattle.receive.specs.Taking.{gateAt, tookFrameOf, frameTable}
 use Rattle.accounts.specs.History.{State, ruledOf, answerOf, after, connAfter, entryAfter}
 use Rattle.accounts.specs.History.Event.{Got as Heard}
-use Rattle.accounts.proofs.Fits.{Fits, fits-test, fits-facts}
+use Rattle.accounts.proofs.Fits.{Fits, fits-test}
 use Rattle.accounts.proofs.Steps.{step-fits}
 use Rattle.accounts.proofs.Tests.{not-both}
 use Rattle.demands.specs.Hosts.{answered, acted, withConn}
 use Rattle.demands.specs.Hosts.Act.{TakeFrame}
 use Rattle.demands.specs.Heard.{shownBy, asked, nextShown}
-use Rattle.demands.specs.Demand1.{closes, typeAt}
+use Rattle.demands.specs.Demand1.{typeAt}
 
 -- an entry set to itself
 pub same-table : (t : List Entry) (i : ℕ) → set t i (entryAt t i) ≡ t
@@ -215,18 +215,12 @@ gate-passes fit mark =
     holds (λ (g : Gate). g .passes ≡ true → isOpen mark ≡ true) (not fit) _ _ (λ e p. impossible cc) (λ e.
     holds (λ (g : Gate). g .passes ≡ true → isOpen mark ≡ true) (not (isOpen mark)) _ _ (λ f p. impossible cc) (λ f p. not-false _ f))
 
--- what the gate refuses with accepts nothing, and closes nothing
-gate-refuses : (fit : Bool) (mark : Mark) → gateOf fit mark .passes ≡ false → accepts (gateOf fit mark .answer) ≡ false
+-- what does not pass the gate is refused with 120 or 101
+pub gate-with : (P : Answer → Type 0) → P DoesNotFit → P Closed → (fit : Bool) (mark : Mark) → gateOf fit mark .passes ≡ false → P (gateOf fit mark .answer)
 unfolding gateOf
-gate-refuses fit mark =
-    holds (λ (g : Gate). g .passes ≡ false → accepts (g .answer) ≡ false) (not fit) _ _ (λ e p. refl) (λ e.
-    holds (λ (g : Gate). g .passes ≡ false → accepts (g .answer) ≡ false) (not (isOpen mark)) _ _ (λ f p. refl) (λ f p. impossible cc))
-
-pub gate-quiet : (fit : Bool) (mark : Mark) → gateOf fit mark .passes ≡ false → closes (gateOf fit mark .answer) ≡ false
-unfolding gateOf
-gate-quiet fit mark =
-    holds (λ (g : Gate). g .passes ≡ false → closes (g .answer) ≡ false) (not fit) _ _ (λ e p. refl) (λ e.
-    holds (λ (g : Gate). g .passes ≡ false → closes (g .answer) ≡ false) (not (isOpen mark)) _ _ (λ f p. refl) (λ f p. impossible cc))
+gate-with P unfit closed fit mark =
+    holds (λ (g : Gate). g .passes ≡ false → P (g .answer)) (not fit) _ _ (λ e p. unfit) (λ e.
+    holds (λ (g : Gate). g .passes ≡ false → P (g .answer)) (not (isOpen mark)) _ _ (λ f p. closed) (λ f p. impossible cc))
 
 module _ (h : State) (s : List ℕ) (at : ℕ) (kind : Kind) where
   abbrev pub stepped : TookFrame
@@ -263,7 +257,7 @@ module _ (h : State) (s : List ℕ) (at : ℕ) (kind : Kind) where
     where
       go : (b : Bool) → gateAt (h .conn) (h .table) .passes ≡ b → gateAt (h .conn) (h .table) .passes ≡ true
       go true g = g
-      go false g = absurd (not-both _ (ap accepts (sym (barred g .0)) ∙ a) (gate-refuses (fits (h .conn) (h .table)) (h .conn .mark) g))
+      go false g = absurd (not-both _ (ap accepts (sym (barred g .0)) ∙ a) (gate-with (λ answer. accepts answer ≡ false) refl refl (fits (h .conn) (h .table)) (h .conn .mark) g))
 
 module _ (h : State) (v : Live h) (s : List ℕ) (at : ℕ) (kind : Kind) where
   gate : gateAt (h .conn) (h .table) .passes ≡ true

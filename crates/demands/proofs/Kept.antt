@@ -1,7 +1,7 @@
 -- A call that looks at no stream sets the first entry to itself, and a table with an entry set to itself is as it was.
 -- Assumes nothing.
 use mathlib.Core.Path.{_≡_, refl}
-use mathlib.Core.Bool.{Bool, true, false, not}
+use mathlib.Core.Bool.{not}
 use mathlib.Core.List.{List}
 use Rattle.answers.specs.Answers.{accepts}
 use Rattle.answers.proofs.Choice.{holds}

@@ -3,23 +3,22 @@
 -- Assumes nothing.
 use Prim.Native.Nat.{ℕ, zero, suc, _-_, _≤_, _<_, _/_}
 use mathlib.Core.Path.{_≡_, refl, sym, _∙_, ap, subst}
-use mathlib.Core.Bool.{Bool, true, false, not, _&&_, and-eq-true-iff}
-use mathlib.Core.List.{List, [], _∷_, _++_}
+use mathlib.Core.Bool.{Bool, true, false, not}
+use mathlib.Core.List.{List, [], _∷_}
 use native.Mathlib.Omega.{arith}
 use native.Mathlib.Decide.{ℕ-discrete}
 use lib.ListN.{length, set, length-set}
 use lib.Seq.{getD-set-same, getD-set-other, ext-getD}
-use lib.Dec.{ltb, leb, eqb}
-use borrow.Author.Tests.{le-leb, eqb-true, not-true, not-false}
+use lib.Dec.{ltb, eqb}
+use borrow.Author.Tests.{eqb-true, not-false}
 use Rattle.answers.specs.Choice.{_⇒_∣_}
 use Rattle.answers.specs.Answers.{accepts}
 use Rattle.answers.specs.declared.Answer.{Answer}
-use Rattle.answers.specs.declared.Answer.the-variants.{Accepted, ProtocolViolation, AboveCeiling, DoesNotFit}
+use Rattle.answers.specs.declared.Answer.the-variants.{Accepted, AboveCeiling, DoesNotFit}
 use Rattle.answers.proofs.Accepts.{accepts-true}
 use Rattle.answers.proofs.Choice.{holds}
 use Rattle.answers.proofs.Distinct.{impossible}
 use Rattle.frames.specs.declared.Kind.{Kind}
-use Rattle.frames.specs.declared.Kind.the-variants.{OneRtt}
 use Rattle.frames.specs.declared.Reading.{Reading}
 use Rattle.frames.specs.Reading.{frameAt}
 use Rattle.halves.specs.Stream.{placeOf}
@@ -27,12 +26,11 @@ use Rattle.streams.specs.declared.Called.{Called}
 use Rattle.streams.specs.declared.Conn.{Conn}
 use Rattle.entries.specs.declared.Entry.{Entry}
 use Rattle.streams.specs.declared.Limits.{Limits}
-use Rattle.streams.specs.declared.Mark.{Mark}
-use Rattle.streams.specs.declared.Mark.the-variants.{Open, Code}
+use Rattle.streams.specs.declared.Mark.the-variants.{Open}
 use Rattle.streams.specs.declared.Space.{Space}
 use Rattle.opening.specs.declared.Opened.{Opened}
 use Rattle.entries.specs.Entry.{mostCredit, fresh, entryAt, entryOf}
-use Rattle.streams.specs.Conn.{isOpen, markedAs, initialOf, nextOf, handedOn, handedOutOf, spaceOf, limitsFit}
+use Rattle.streams.specs.Conn.{isOpen, initialOf, nextOf, handedOutOf, limitsFit}
 use Rattle.opening.specs.Opening.{openedConn, unopenedOf, openingOf, openingWhen, entriesOf}
 use Rattle.views.specs.View.{viewOf}
 use Rattle.calls.specs.declared.Call.{Call}
@@ -40,31 +38,23 @@ use Rattle.calls.specs.declared.Replied.{Replied}
 use Rattle.calls.specs.Calls as calls
 use Rattle.calls.specs.Calls.{replyOf, ruledOf as ruledCall, repliedOf}
 use Rattle.limits.specs.Fits.{fits}
-use Rattle.packets.specs.declared.Begun.{Begun}
 use Rattle.spaces.specs.declared.Records.{Records}
-use Rattle.steps.specs.declared.Gate.{Gate}
-use Rattle.steps.specs.declared.Stopped.{Stopped}
-use Rattle.spaces.specs.Spaces.{recordedOf}
-use Rattle.packets.specs.Begin.{refusedOf, closesOf}
-use Rattle.endings.specs.Finish.{tookAs, finishOf}
-use Rattle.steps.specs.Gate.{gateOf}
 use Rattle.steps.specs.Step.{requestOf}
 use Rattle.local.specs.Table.{filledTo, openedTable}
-use Rattle.walks.specs.Walk.{stopped, Walked, walkFrom, walkAll}
-use Rattle.receive.specs.Taking.{gateAt, begunOf, tookOf, tookTable}
+use Rattle.receive.specs.Taking.{gateAt, begunOf}
 use Rattle.local.specs.Calling.{callPlace, calledAt, calledTable}
 use Rattle.accounts.specs.History.{Event, ruledOf, connAfter, entryAfter, State, answerOf, after, opened, WasOpened, stateOf, AllAccepted}
 use Rattle.accounts.specs.History.Event.{Got as Heard, Did, Gave}
 use Rattle.accounts.proofs.Tests.{not-both}
 use Rattle.accounts.proofs.Fits.{Fits, fits-test}
 use Rattle.accounts.proofs.Owned.{length-list, list-at, always}
-use Rattle.demands.specs.Hosts.{Act, answered, acted, withConn, withBoth, kept, WasHosted, hosted}
+use Rattle.demands.specs.Hosts.{Act, answered, acted, kept, WasHosted, hosted}
 use Rattle.demands.specs.Hosts.Act.{TakeFrame, TakePacket, Make, HandOut}
-use Rattle.demands.specs.Heard.{Run, shownBy, nextShown, ended, oneByOne, framesIn, callsOf, onto, noted, heardAfter, heardBy}
+use Rattle.demands.specs.Heard.{Run, ended, oneByOne, framesIn, callsOf, onto, noted, heardAfter, heardBy}
 use Rattle.demands.specs.Packets.{Enters}
 use Rattle.demands.specs.Demand1.{closes, leaves}
 use Rattle.demands.proofs.Frames.{same-table, closed, refusing, decided, shuts, Live, accepted-is, answer-is, acted-is, barred, passed-gate, gate-passes}
-use Rattle.demands.proofs.OneByOne.{is-frames, frames-are, header-refused, entered}
+use Rattle.demands.proofs.OneByOne.{by-frames, is-frames, frames-are, header-refused, entered}
 
 -- ---- states
 
@@ -135,17 +125,11 @@ module _ (o : Limits) (l : List Event) (h : State) (w : Lifted o l h) (s : List 
 
 -- ---- the frames of a packet
 
-run : (k : ℕ) (o : Limits) (l : List Event) (h : State) → Lifted o l h → (s : List ℕ) (at : ℕ) (kind : Kind) → Lifted o (heardAfter h (callsOf (oneByOne k h s at kind)) l) (kept h (callsOf (oneByOne k h s at kind)))
-unfolding oneByOne heardAfter kept
-run zero o l h w s at kind = w
-run (suc k) o l h w s at kind =
-    let x = TakeFrame s at kind in
-    let P : Run → Type 0 = λ r. Lifted o (heardAfter h (callsOf r) l) (kept h (callsOf r)) in
-    let Q : Run → Type 0 = λ r. Lifted o (heardAfter (acted h x) (callsOf r) (noted h x l)) (kept (acted h x) (callsOf r)) in
-    let f = frame o l h w s at kind in
-    holds P (leb (length s) at) _ _ (λ e. w) (λ e.
-    holds P (not (accepts (answered h x))) _ _ (λ a. f) (λ a.
-    holds Q (not (isOpen (acted h x .conn .mark))) _ _ (λ p. f) (λ p. run k o (noted h x l) (acted h x) f s (nextShown at (shownBy h s at kind)) kind)))
+run : (o : Limits) (s : List ℕ) (kind : Kind) (k : ℕ) (h : State) (at : ℕ) (l : List Event) → Lifted o l h → Lifted o (heardAfter h (callsOf (oneByOne k h s at kind)) l) (kept h (callsOf (oneByOne k h s at kind)))
+unfolding heardAfter kept
+run o s kind =
+    by-frames s kind (λ h at r. (l : List Event) → Lifted o l h → Lifted o (heardAfter h (callsOf r) l) (kept h (callsOf r))) (λ h at l w. w)
+    (λ h at a l w. frame o l h w s at kind) (λ h at a l w. frame o l h w s at kind) (λ h at r a ih l w. ih _ (frame o l h w s at kind))
 
 -- ---- a local call, and a number handed out
 
@@ -202,7 +186,7 @@ module _ (o : Limits) (l : List Event) (h : State) (w : Lifted o l h) where
           let p = is-frames h rs first s four a in
           let g = begunOf (h .conn) rs (h .table) first s in
           let P : State → Type 0 = λ y. Lifted o (noted h (TakePacket rs first s) l) y in
-          subst P (sym (p .state)) (subst (λ (m : List Event). Lifted o m (kept h (callsOf (framesIn h rs first s)))) (sym (p .history l)) (subst (λ (r : Run). Lifted o (heardAfter h (callsOf r) l) (kept h (callsOf r))) (sym (frames-are h rs first s four a)) (run (length s - g .at) o l h w s (g .at) (g .kind))))
+          subst P (sym (p .state)) (subst (λ (m : List Event). Lifted o m (kept h (callsOf (framesIn h rs first s)))) (sym (p .history l)) (subst (λ (r : Run). Lifted o (heardAfter h (callsOf r) l) (kept h (callsOf r))) (sym (frames-are h rs first s four a)) (run o s (g .kind) (length s - g .at) h (g .at) l w)))
 
       none : (b : Bool) (answer : Answer) → closes answer ≡ b → (closes answer ≡ true → isOpen (h .conn .mark) ≡ true) → Lifted o l (leaves answer 0 h)
       none true answer k p = rw k (subst (λ (y : State). Lifted o l (closed y answer 0)) (sym (open-same _ _ (w .follows) (p k))) (record { accepted = w .accepted; follows = shut answer 0 }))

@@ -23,7 +23,6 @@ use Rattle.streams.specs.declared.Conn.{Conn}
 use Rattle.streams.specs.declared.Mark.the-variants.{Code}
 use Rattle.streams.specs.Conn.{isOpen, markedAs, spaceOf}
 use Rattle.views.specs.declared.View.{View}
-use Rattle.views.specs.View.{viewOf}
 use Rattle.limits.specs.Fits.{fits}
 use Rattle.spaces.specs.declared.Records.{Records}
 use Rattle.spaces.specs.Spaces.{recordedOf}
@@ -31,8 +30,7 @@ use Rattle.packets.specs.declared.Begun.{Begun}
 use Rattle.packets.specs.Begin.{refusedOf, closesOf}
 use Rattle.steps.specs.declared.Stopped.{Stopped}
 use Rattle.steps.specs.declared.TookFrame.{TookFrame}
-use Rattle.steps.specs.Step.{requestOf, requestAt}
-use Rattle.steps.specs.Step.{shownAt}
+use Rattle.steps.specs.Step.{requestAt}
 use Rattle.endings.specs.declared.Took.{Took}
 use Rattle.endings.specs.Finish.{tookAs, finishOf}
 use Rattle.walks.specs.Walk.{decidedAt, steppedAt, stepTable, stopped, Walked, walkFrom, walkAll}
@@ -49,7 +47,7 @@ use Rattle.demands.specs.Demand1.{leaves}
 use Rattle.demands.specs.Packets.{OneByOne, IsFrames, Enters, Entered}
 use Rattle.demands.proofs.Begins.{Begins, begins}
 use Rattle.demands.proofs.Begins.Begins.{goes, shuts as closing, stays}
-use Rattle.demands.proofs.Frames.{refusing, decided, left, more-open, shuts, Live, accepted-fits, stepped, took-is, passed-gate, answer-is, acted-is, shown-is, Whole, whole}
+use Rattle.demands.proofs.Frames.{refusing, left, more-open, shuts, Live, accepted-fits, stepped, took-is, passed-gate, answer-is, acted-is, shown-is, Whole, whole}
 
 -- ---- the walk
 
@@ -142,6 +140,29 @@ walk-same (suc k) h v s at kind =
     same-choice h (leb (length s) at) _ _ _ _ (λ e. record { answer = refl; place = refl; state = refl })
     (λ e. step-same h v s at kind (λ g next. oneByOne k g s next kind) (λ g next. walkFrom k (g .conn) (g .table) s next kind) (λ g w next. walk-same k g w s next kind))
 
+-- ---- what holds of frames taken one by one, by how they end
+
+-- the run of a frame that is refused
+abbrev pub refusedAt : State → List ℕ → ℕ → Kind → Run
+refusedAt h s at kind = record { accepted = []; heard = []; refused = TakeFrame s at kind ∷ []; answer = answered h (TakeFrame s at kind); place = at }
+
+-- no frame; one that is refused; an accepted one that closes the connection; and an accepted one before others
+module _ (s : List ℕ) (kind : Kind) (P : State → ℕ → Run → Type 0) (none : (h : State) (at : ℕ) → P h at (ended at))
+    (one : (h : State) (at : ℕ) → accepts (answered h (TakeFrame s at kind)) ≡ false → P h at (refusedAt h s at kind))
+    (last : (h : State) (at : ℕ) → accepts (answered h (TakeFrame s at kind)) ≡ true → P h at (after (TakeFrame s at kind) (asked kind (shownBy h s at kind)) (ended at)))
+    (more : (h : State) (at : ℕ) (r : Run) → accepts (answered h (TakeFrame s at kind)) ≡ true → P (acted h (TakeFrame s at kind)) (nextShown at (shownBy h s at kind)) r → P h at (after (TakeFrame s at kind) (asked kind (shownBy h s at kind)) r)) where
+  pub by-frames : (k : ℕ) (h : State) (at : ℕ) → P h at (oneByOne k h s at kind)
+  unfolding oneByOne
+  by-frames zero h at = none h at
+  by-frames (suc k) h at =
+      let further = oneByOne k (acted h (TakeFrame s at kind)) s (nextShown at (shownBy h s at kind)) kind in
+      let rest = not (isOpen (acted h (TakeFrame s at kind) .conn .mark)) ⇒ ended at ∣ further in
+      let taken = after (TakeFrame s at kind) (asked kind (shownBy h s at kind)) rest in
+      holds (P h at) (leb (length s) at) (ended at) (not (accepts (answered h (TakeFrame s at kind))) ⇒ refusedAt h s at kind ∣ taken) (λ e. none h at) (λ e.
+      holds (P h at) (not (accepts (answered h (TakeFrame s at kind)))) (refusedAt h s at kind) taken (λ a. one h at (not-true _ a)) (λ a.
+      holds (λ (r : Run). P h at (after (TakeFrame s at kind) (asked kind (shownBy h s at kind)) r)) (not (isOpen (acted h (TakeFrame s at kind) .conn .mark))) (ended at) further
+      (λ o. last h at (not-false _ a)) (λ o. more h at further (not-false _ a) (by-frames k (acted h (TakeFrame s at kind)) (nextShown at (shownBy h s at kind))))))
+
 -- ---- the history
 
 pub onto-then : (a b : List View) (l : List Event) → onto (a ++ b) l ≡ onto b (onto a l)
@@ -149,40 +170,15 @@ unfolding onto
 onto-then [] b l = refl
 onto-then (v ∷ a) b l = onto-then a b (Heard v ∷ l)
 
-heard-same : (k : ℕ) (h : State) (s : List ℕ) (at : ℕ) (kind : Kind) (l : List Event) → onto (oneByOne k h s at kind .heard) l ≡ heardAfter h (callsOf (oneByOne k h s at kind)) l
-unfolding oneByOne heardAfter onto
-heard-same zero h s at kind l = refl
-heard-same (suc k) h s at kind l =
-    holds Heard-same (leb (length s) at) _ _ (λ e. refl) (λ e.
-    holds Heard-same (not (accepts (answered h x))) barred _ (λ a. none-noted (not-true _ a)) (λ a.
-    onto-then (asked kind (shownBy h s at kind)) (rest .heard) l ∙ then (heard-same k (acted h x) s (nextShown at (shownBy h s at kind)) kind (onto (asked kind (shownBy h s at kind)) l)) ∙ ap (λ (m : List Event). heardAfter (acted h x) (callsOf rest) m) (sym (noted-is (not-false _ a)))))
-  where
-    x : Act
-    x = TakeFrame s at kind
+noted-frame : (h : State) (s : List ℕ) (at : ℕ) (kind : Kind) (l : List Event) → accepts (answered h (TakeFrame s at kind)) ≡ true → onto (asked kind (shownBy h s at kind)) l ≡ noted h (TakeFrame s at kind) l
+noted-frame h s at kind l a = rw a refl
 
-    Heard-same : Run → Type 0
-    Heard-same r = onto (r .heard) l ≡ heardAfter h (callsOf r) l
-
-    barred : Run
-    barred = record { accepted = []; heard = []; refused = x ∷ []; answer = answered h x; place = at }
-
-    none-noted : accepts (answered h x) ≡ false → Heard-same barred
-    none-noted a = rw a refl
-
-    rest : Run
-    rest = not (isOpen (acted h x .conn .mark)) ⇒ ended at ∣ oneByOne k (acted h x) s (nextShown at (shownBy h s at kind)) kind
-
-    noted-is : accepts (answered h x) ≡ true → noted h x l ≡ onto (asked kind (shownBy h s at kind)) l
-    noted-is a = rw a refl
-
-    later : List Event
-    later = onto (asked kind (shownBy h s at kind)) l
-
-    further : Run
-    further = oneByOne k (acted h x) s (nextShown at (shownBy h s at kind)) kind
-
-    then : onto (further .heard) later ≡ heardAfter (acted h x) (callsOf further) later → onto (rest .heard) (onto (asked kind (shownBy h s at kind)) l) ≡ heardAfter (acted h x) (callsOf rest) (onto (asked kind (shownBy h s at kind)) l)
-    then ih = holds (λ (r : Run). onto (r .heard) (onto (asked kind (shownBy h s at kind)) l) ≡ heardAfter (acted h x) (callsOf r) (onto (asked kind (shownBy h s at kind)) l)) (not (isOpen (acted h x .conn .mark))) _ _ (λ o. refl) (λ o. ih)
+heard-same : (s : List ℕ) (kind : Kind) (k : ℕ) (h : State) (at : ℕ) (l : List Event) → onto (oneByOne k h s at kind .heard) l ≡ heardAfter h (callsOf (oneByOne k h s at kind)) l
+unfolding heardAfter onto
+heard-same s kind =
+    by-frames s kind (λ h at r. (l : List Event) → onto (r .heard) l ≡ heardAfter h (callsOf r) l) (λ h at l. refl) (λ h at a l. rw a refl)
+    (λ h at a l. onto-then (asked kind (shownBy h s at kind)) [] l ∙ noted-frame h s at kind l a)
+    (λ h at r a ih l. onto-then (asked kind (shownBy h s at kind)) (r .heard) l ∙ ih _ ∙ ap (λ (m : List Event). heardAfter (acted h (TakeFrame s at kind)) (callsOf r) m) (noted-frame h s at kind l a))
 
 -- ---- the packet
 
@@ -236,7 +232,7 @@ module _ (h : State) (rs : Records) (first : ℕ) (s : List ℕ) (four : length 
       answer = ap (λ (x : Took). x .answer) took-as ∙ same .answer;
       place = ap (λ (x : Took). x .place) took-as ∙ same .place;
       state = (λ j. withBoth (took-as j .conn) (table-as j)) ∙ same .state;
-      history = λ l. subst (λ (r : Run). onto (r .heard) l ≡ heardAfter h (callsOf r) l) (sym frames-are) (heard-same (length s - begun .at) h s (begun .at) (begun .kind) l);
+      history = λ l. subst (λ (r : Run). onto (r .heard) l ≡ heardAfter h (callsOf r) l) (sym frames-are) (heard-same s (begun .kind) (length s - begun .at) h (begun .at) l);
       records = ap (λ (x : Took). x .records) took-as ∙ ap (λ (y : Answer). accepts y ⇒ recordedOf rs (spaceOf (begun .kind)) (begun .number) ∣ rs) (same .answer);
     }
 

@@ -1,7 +1,7 @@
 -- Demand 3 of the host's calls, packets included: what the host keeps is the state of the history of what was accepted, by Lifted, and of histories crate accounts has it.
 -- A packet that leaves the connection open has walked over all its frames.
 -- Assumes nothing.
-use Prim.Native.Nat.{ℕ, zero, suc, _+_, _-_, _*_, _%_, _≤_, _<_, _^_}
+use Prim.Native.Nat.{ℕ, zero, suc, _+_, _-_, _*_, _^_}
 use mathlib.Core.Path.{_≡_, refl, sym, _∙_, ap, subst}
 use mathlib.Core.Bool.{Bool, true, false, not}
 use mathlib.Core.List.{List, [], _∷_, _++_}
@@ -21,7 +21,7 @@ use Rattle.frames.specs.declared.Frame.the-variants.{Stream, ResetStream}
 use Rattle.frames.specs.declared.Kind.{Kind}
 use Rattle.frames.specs.declared.Kind.the-variants.{OneRtt}
 use Rattle.frames.specs.declared.Reading.{Reading}
-use Rattle.frames.specs.declared.Reading.the-variants.{Got, Refused}
+use Rattle.frames.specs.declared.Reading.the-variants.{Got}
 use Rattle.frames.specs.Reading.{frameAt}
 use Rattle.frames.proofs.Sound.{frame-got}
 use Rattle.roundtrip.proofs.Readers.{stream-end}
@@ -62,7 +62,7 @@ use Rattle.accounts.proofs.Halves.{count-ours}
 use Rattle.accounts.proofs.Advertised.{next-is, opens-next, said, credit-said}
 use Rattle.accounts.proofs.Demand.{Running, verdict-is-own, neighbours-never, accounts, furthest-beyond}
 use Rattle.demands.specs.Hosts.{Act, answered, acted, numberGiven, kept, WasHosted, hosted, hostAfter}
-use Rattle.demands.specs.Hosts.Act.{TakeFrame, TakePacket, Make, HandOut}
+use Rattle.demands.specs.Hosts.Act.{TakeFrame, TakePacket, Make}
 use Rattle.demands.specs.Heard.{Run, ended, asked, nextShown, shownBy, oneByOne, framesIn, callsOf, onto, noted, heardAfter, heardBy, withFrame, framesFrom, framesOf}
 use Rattle.demands.specs.Packets.{NoneWaved}
 use Rattle.demands.specs.Demand3.{Names, Enough, Fitted, Demand3, Independence}

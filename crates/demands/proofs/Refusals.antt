@@ -1,22 +1,19 @@
 -- What a refusal leaves, call by call: a frame that the gate lets pass is refused with a code that closes, and one that it does not with 101 or 120, which change nothing;
 -- a packet is its frames one by one; every other call names what it leaves where it names its answer.
 -- Assumes nothing.
-use Prim.Native.Nat.{ℕ, zero, suc, _-_}
+use Prim.Native.Nat.{ℕ, _-_}
 use mathlib.Core.Path.{_≡_, refl, sym, _∙_, ap, subst}
 use mathlib.Core.Bool.{Bool, true, false, not, true≢false}
-use mathlib.Core.List.{List, [], _∷_, _++_}
+use mathlib.Core.List.{List}
 use native.Mathlib.Omega.{arith}
-use lib.Dec.{ltb, leb}
+use lib.Dec.{ltb}
 use lib.ListN.{length, set}
-use borrow.Author.Tests.{not-true, not-false}
 use Rattle.answers.specs.Choice.{_⇒_∣_}
 use Rattle.answers.specs.Answers.{accepts}
 use Rattle.answers.specs.declared.Answer.{Answer}
 use Rattle.answers.specs.declared.Answer.the-variants.{Accepted, DoesNotFit}
-use Rattle.answers.proofs.Accepts.{accepts-true}
 use Rattle.answers.proofs.Choice.{holds}
-use Rattle.answers.proofs.Distinct.{impossible}
-use Rattle.wire.specs.Number.{numberAt, withNumber}
+use Rattle.wire.specs.Number.{withNumber}
 use Rattle.wire.specs.Writing.{Draft, writes, numberDraft}
 use Rattle.wire.specs.declared.Number.{Number}
 use Rattle.wire.specs.declared.Wrote.{Wrote}
@@ -48,19 +45,18 @@ use Rattle.limits.specs.Fits.{fits}
 use Rattle.spaces.specs.declared.Records.{Records}
 use Rattle.spaces.specs.Spaces.{recordedOf}
 use Rattle.steps.specs.declared.TookFrame.{TookFrame}
-use Rattle.steps.specs.Step.{requestOf}
 use Rattle.local.specs.Table.{filledTo, openedTable}
 use Rattle.local.specs.Calling.{callPlace, calledAt, calledTable}
 use Rattle.receive.specs.Taking.{gateAt, begunOf}
 use Rattle.accounts.specs.History.{State}
 use Rattle.accounts.proofs.Tests.{not-both}
-use Rattle.demands.specs.Hosts.{Act, answered, acted, withConn, withBoth, recordsAfter, placeTold, kept}
+use Rattle.demands.specs.Hosts.{answered, acted, withConn, withBoth, placeTold, kept}
 use Rattle.demands.specs.Hosts.Act.{TakeFrame, TakePacket, Make, HandOut}
-use Rattle.demands.specs.Heard.{Run, ended, after, asked, nextShown, shownBy, oneByOne, framesIn, callsOf}
-use Rattle.demands.specs.Demand1.{Asked, wroteAnswer, answerTo, closes, leaves, typeAt, Left, Demand1}
+use Rattle.demands.specs.Heard.{Run, after, oneByOne, framesIn, callsOf}
+use Rattle.demands.specs.Demand1.{wroteAnswer, closes, leaves, typeAt, Left, Demand1}
 use Rattle.demands.specs.Demand1.Asked.{OfHost, Open, RecordNumber, WriteNumber, WriteRow, WriteFrame, Acknowledge}
-use Rattle.demands.proofs.Frames.{same-table, closed, refused-with, refusing, Codes, decided, left, decided-with, shuts, gate-quiet, took-is, left-is, barred, type-is}
-use Rattle.demands.proofs.OneByOne.{is-frames, frames-are, header-refused}
+use Rattle.demands.proofs.Frames.{same-table, closed, refused-with, refusing, Codes, decided, left, decided-with, shuts, gate-with, took-is, left-is, barred, type-is}
+use Rattle.demands.proofs.OneByOne.{by-frames, is-frames, frames-are, header-refused}
 
 -- an acceptance is no refusal
 none : {G : Type 0} → accepts Accepted ≡ false → G
@@ -97,23 +93,17 @@ frame-left h s at kind e = go (gateAt (h .conn) (h .table) .passes) refl
         ∙ ap (closed h answer) (type-is s at kind) ∙ leaves-shut h answer (typeAt s at) k ∙ ap (λ (x : Answer). leaves x (typeAt s at) h) (sym t)
     go false g =
         let b = barred h s at kind g in
-        b .1 ∙ leaves-same h (gateAt (h .conn) (h .table) .answer) (typeAt s at) (gate-quiet (fits (h .conn) (h .table)) (h .conn .mark) g) ∙ ap (λ (x : Answer). leaves x (typeAt s at) h) (sym (b .0))
+        b .1 ∙ leaves-same h (gateAt (h .conn) (h .table) .answer) (typeAt s at) (gate-with (λ x. closes x ≡ false) refl refl (fits (h .conn) (h .table)) (h .conn .mark) g) ∙ ap (λ (x : Answer). leaves x (typeAt s at) h) (sym (b .0))
 
 -- ---- a packet
 
 -- the frames before the refused one stay applied, and it closes what they left
-run-left : (k : ℕ) (h : State) (s : List ℕ) (at : ℕ) (kind : Kind) → accepts (oneByOne k h s at kind .answer) ≡ false
-    → kept h (callsOf (oneByOne k h s at kind)) ≡ leaves (oneByOne k h s at kind .answer) (typeAt s (oneByOne k h s at kind .place)) (kept h (oneByOne k h s at kind .accepted))
-unfolding oneByOne kept
-run-left zero h s at kind = none
-run-left (suc k) h s at kind =
-    let x = TakeFrame s at kind in
-    holds (Run-left h s) (leb (length s) at) _ _ (λ e. none) (λ e.
-    holds (Run-left h s) (not (accepts (answered h x))) _ _ (λ a. frame-left h s at kind) (λ a.
-    holds (Run-left (acted h x) s) (not (isOpen (acted h x .conn .mark))) _ _ (λ o. none) (λ o. run-left k (acted h x) s (nextShown at (shownBy h s at kind)) kind)))
-  where
-    Run-left : State → List ℕ → Run → Type 0
-    Run-left h s r = accepts (r .answer) ≡ false → kept h (callsOf r) ≡ leaves (r .answer) (typeAt s (r .place)) (kept h (r .accepted))
+abbrev Run-left : List ℕ → State → ℕ → Run → Type 0
+Run-left s h at r = accepts (r .answer) ≡ false → kept h (callsOf r) ≡ leaves (r .answer) (typeAt s (r .place)) (kept h (r .accepted))
+
+run-left : (s : List ℕ) (kind : Kind) (k : ℕ) (h : State) (at : ℕ) → Run-left s h at (oneByOne k h s at kind)
+unfolding kept
+run-left s kind = by-frames s kind (Run-left s) (λ h at. none) (λ h at a. frame-left h s at kind) (λ h at a. none) (λ h at r a ih. ih)
 
 no-type : (s : List ℕ) → typeAt s (length s) ≡ 0
 no-type s = ap (λ (n : Number). withNumber n 0 (λ ty next. ty)) (forms.past s (length s) (omega arith))
@@ -130,7 +120,7 @@ packet-left h rs first s four e = go (accepts (begunOf (h .conn) rs (h .table) f
         let r = framesIn h rs first s in
         let refused = ap accepts (sym (p .answer)) ∙ e in
         let P : Run → Type 0 = λ q. accepts (q .answer) ≡ false → kept h (callsOf q) ≡ leaves (q .answer) (typeAt s (q .place)) (kept h (q .accepted)) in (
-          p .state ∙ subst P (sym f) (run-left (length s - g .at) h s (g .at) (g .kind)) refused ∙ (λ j. leaves (sym (p .answer) j) (typeAt s (sym (p .place) j)) (kept h (r .accepted))),
+          p .state ∙ subst P (sym f) (run-left s (g .kind) (length s - g .at) h (g .at)) refused ∙ (λ j. leaves (sym (p .answer) j) (typeAt s (sym (p .place) j)) (kept h (r .accepted))),
           p .records ∙ ap (λ (b : Bool). b ⇒ recordedOf rs (spaceOf (g .kind)) (g .number) ∣ rs) refused,
         )
 

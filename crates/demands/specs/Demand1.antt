@@ -10,7 +10,7 @@ use Rattle.answers.specs.Answers.{numberOf, accepts}
 use Rattle.answers.specs.declared.Answer.{Answer}
 use Rattle.answers.specs.declared.Answer.the-variants.{Accepted}
 use Rattle.wire.specs.Number.{numberAt, withNumber}
-use Rattle.wire.specs.Writing.{Draft, writes, numberDraft}
+use Rattle.wire.specs.Writing.{writes, numberDraft}
 use Rattle.wire.specs.declared.Wrote.{Wrote}
 use Rattle.wire.specs.declared.Wrote.the-variants as Wrote'
 use Rattle.row.specs.Row.{rowDraft}

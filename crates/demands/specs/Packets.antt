@@ -18,13 +18,12 @@ use Rattle.streams.specs.declared.Mark.the-variants.{Open}
 use Rattle.views.specs.View.{viewOf}
 use Rattle.spaces.specs.declared.Records.{Records}
 use Rattle.spaces.specs.Spaces.{recordedOf}
-use Rattle.packets.specs.declared.Begun.{Begun}
 use Rattle.receive.specs.Taking.{begunOf}
 use Rattle.accounts.specs.History.{Event, State}
 use Rattle.accounts.specs.History.Event.{Got as Heard}
 use Rattle.demands.specs.Hosts.{Act, answered, acted, recordsAfter, placeTold, kept, WasHosted, hostAfter}
 use Rattle.demands.specs.Hosts.Act.{TakeFrame, TakePacket}
-use Rattle.demands.specs.Heard.{Run, framesIn, callsOf, noted, heardAfter, onto, heardBy, framesOf}
+use Rattle.demands.specs.Heard.{framesIn, callsOf, noted, heardAfter, onto, heardBy, framesOf}
 
 pub record OneByOne (h : State) (rs : Records) (first : ℕ) (s : List ℕ) : Type 0 where
   pub answer : answered h (TakePacket rs first s) ≡ framesIn h rs first s .answer
