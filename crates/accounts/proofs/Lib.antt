@@ -1,9 +1,12 @@
 pub mod Advertised
+pub mod Asked
 pub mod Borders
 pub mod Demand
 pub mod Fits
 pub mod Halves
+pub mod Left
 pub mod Owned
+pub mod Rules
 pub mod Steps
 pub mod Sums
 pub mod Tests

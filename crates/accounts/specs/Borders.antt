@@ -33,8 +33,16 @@ limits credit two-way one-way peers ours single = record { credit = credit; coun
 abbrev pub bench : ℕ → ℕ → ℕ → ℕ → ℕ → Mark → Conn
 bench open0 open1 open2 open3 next mark = record { limits = limits 40 4 4 16 16 16; opened = open0 ∷ open1 ∷ open2 ∷ open3 ∷ []; total = 0; next = 0 ∷ 0 ∷ next ∷ []; mark = mark }
 
+-- a connection all of whose numbers differ, so that none can stand for another: counts 3 and 5, stream credits 16, 17 and 18, connection credit 40, next numbers 7, 8 and 9
+abbrev pub held : ℕ → ℕ → ℕ → ℕ → ℕ → Mark → Conn
+held open0 open1 open2 open3 total mark = record { limits = limits 40 3 5 16 17 18; opened = open0 ∷ open1 ∷ open2 ∷ open3 ∷ []; total = total; next = 7 ∷ 8 ∷ 9 ∷ []; mark = mark }
+
 abbrev pub entry : ℕ → ℕ → ℕ → Entry
 entry credit end size = record { credit = credit; end = end; size = size }
+
+-- an entry whose final size is not known
+abbrev pub growing : ℕ → ℕ → Entry
+growing credit end = entry credit end (2 ^ 64 - 1)
 
 -- the answers to some frames, each on the connection as it is and an entry with credit 16
 abbrev pub heard : Conn → List View → List ℕ

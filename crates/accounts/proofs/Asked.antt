@@ -1,0 +1,26 @@
+-- What each frame asks holds by computation, whatever packet carries it.
+-- Assumes nothing.
+use mathlib.Core.Path.{refl}
+use Rattle.halves.specs.Stream.{listed, placeOf}
+use Rattle.views.specs.View.{endOf}
+use Rattle.accounts.specs.Asked.{Asked}
+
+pub asked : Asked
+unfolding listed placeOf endOf
+asked = record {
+  ends = λ kind. refl;
+  named = λ kind. refl;
+  acknowledges = refl;
+  acknowledges-counts = refl;
+  closes = λ kind. refl;
+  others = λ kind. refl;
+  end-sums = refl;
+  end-highest = refl;
+  end-longest = refl;
+  end-no-length = refl;
+  end-above = refl;
+  end-far-above = refl;
+  places = refl;
+  placeless = refl;
+  looks-at = refl;
+}
