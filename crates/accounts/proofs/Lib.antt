@@ -1,10 +1,13 @@
 pub mod Advertised
 pub mod Asked
 pub mod Borders
+pub mod Calls
 pub mod Demand
 pub mod Fits
+pub mod Fitting
 pub mod Halves
 pub mod Left
+pub mod Opening
 pub mod Owned
 pub mod Rules
 pub mod Steps

@@ -37,6 +37,10 @@ bench open0 open1 open2 open3 next mark = record { limits = limits 40 4 4 16 16 
 abbrev pub held : ℕ → ℕ → ℕ → ℕ → ℕ → Mark → Conn
 held open0 open1 open2 open3 total mark = record { limits = limits 40 3 5 16 17 18; opened = open0 ∷ open1 ∷ open2 ∷ open3 ∷ []; total = total; next = 7 ∷ 8 ∷ 9 ∷ []; mark = mark }
 
+-- one of them: of types 0 to 3, 1, 2, 3 and 4 streams are open, and the total is 20
+abbrev pub before : Conn
+before = held 1 2 3 4 20 Open
+
 abbrev pub entry : ℕ → ℕ → ℕ → Entry
 entry credit end size = record { credit = credit; end = end; size = size }
 

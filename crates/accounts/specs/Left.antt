@@ -15,13 +15,9 @@ use Rattle.views.specs.declared.View.the-variants.{Ends, Blocks, ForSender, Ack
 use Rattle.views.specs.View.{viewOf}
 use Rattle.verdicts.specs.declared.Judged.{Judged}
 use Rattle.verdicts.specs.Verdict.{connHeard, entryHeard, judgedOf}
-use Rattle.accounts.specs.Borders.{held, entry, growing}
+use Rattle.accounts.specs.Borders.{held, before, entry, growing}
 
--- of types 0 to 3, 1, 2, 3 and 4 streams are open, and the total is 20
-abbrev pub before : Conn
-before = held 1 2 3 4 20 Open
-
--- a frame of type 10 on that connection and an entry with credit 16 and furthest end 6
+-- a frame of type 10 on the connection before, and an entry with credit 16 and furthest end 6
 abbrev pub judged : View → Judged
 judged v = judgedOf before (growing 16 6) 10 v
 

@@ -4,3 +4,6 @@ pub mod Borders
 pub mod Rules
 pub mod Left
 pub mod Asked
+pub mod Calls
+pub mod Opening
+pub mod Fitting
