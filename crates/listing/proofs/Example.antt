@@ -1,15 +1,10 @@
--- The example of document 01, "Bench examples", listed by computation on the definitions: PING, STREAM "hello" on stream 0, and a RESET_STREAM of stream 0 at 20, which breaks its credit.
+-- The listings hold by computation.
 -- Assumes nothing.
-use Prim.Native.Nat.{ℕ}
-use mathlib.Core.Path.{_≡_, refl}
-use mathlib.Core.Bool.{false}
-use mathlib.Core.List.{List, [], _∷_, _++_}
-use lib.ListN.{length, take, replicate}
+use mathlib.Core.Path.{refl}
 use Rattle.text.specs.Decimal.{digitsOf, decimalOf}
 use Rattle.columns.specs.Row.{fieldOf, typeText, rowOf, closedText}
-use Rattle.report.specs.Listing.{typeShown, takenRowOf, nextIn, afterOf, lastOf, endingOf}
+use Rattle.report.specs.Listing.{tooLong, typeShown, takenRowOf, nextIn, afterOf, lastOf, endingOf}
 use Rattle.pages.specs.Pages.{smallOf, withRow, oneMoreOf, pageFrom, pageOf}
-use Rattle.pages.specs.declared.Page.{Page}
 use Rattle.wire.specs.Writing.{writes}
 use Rattle.wire.specs.Number.{numberAt, fieldAt, valuesIn, bigEndian, shortest, sizeOf, formOf}
 use Rattle.layouts.specs.Layout.{layouts, layoutOf, known}
@@ -36,22 +31,21 @@ use Rattle.steps.specs.Step.{requestOf, requestAt, decidedOf, shownOf, shownAt}
 use Rattle.local.specs.Table.{filledTo, openedTable}
 use Rattle.walks.specs.Walk.{decidedAt}
 use Rattle.receive.specs.Taking.{tookFrameOf, frameTable}
+use Rattle.listing.specs.Example.{Example}
 
--- a page before its first row
-abbrev first : Page
-first = record { conn = smallOf .opened .conn; table = smallOf .table; at = 0; used = 0; full = false }
-
--- the rows of a payload and the last line after them, on a page of 100 bytes
-abbrev written : List ℕ → List ℕ
-written s = let r = pageOf first s (replicate 100 0) in take (r .0 .used) (r .1) ++ endingOf (lastOf (length s) (r .0 .conn .mark))
-
--- "0 1 0 0", "1 10 0 5", "9 4 3 5", "closed 3"
-pub example : written (1 ∷ 10 ∷ 0 ∷ 5 ∷ 104 ∷ 101 ∷ 108 ∷ 108 ∷ 111 ∷ 4 ∷ 4 ∷ 0 ∷ 20 ∷ [])
-    ≡ 48 ∷ 32 ∷ 49 ∷ 32 ∷ 48 ∷ 32 ∷ 48 ∷ 10 ∷ 49 ∷ 32 ∷ 49 ∷ 48 ∷ 32 ∷ 48 ∷ 32 ∷ 53 ∷ 10 ∷ 57 ∷ 32 ∷ 52 ∷ 32 ∷ 51 ∷ 32 ∷ 53 ∷ 10 ∷ 99 ∷ 108 ∷ 111 ∷ 115 ∷ 101 ∷ 100 ∷ 32 ∷ 51 ∷ 10 ∷ []
-unfolding numberAt fieldAt valuesIn bigEndian shortest sizeOf formOf layouts layoutOf known admitted numbersAt optionalAt sizedAt countedAt rangedAt faultOf aboveOf frameOf endedAt partsAt fieldsAt headAt frameAt idOf listed placeOf finalOf reached countOf limitsFit openingOf rule1 rule2 rule3 rule4 rule5 endsOf endOf verdictOf connHeard entryHeard settledOf judgedOf isFresh entryFitsAs openFit connFits sumTo allTo fits gateOf openingWhen entriesOf requestOf requestAt decidedOf filledTo openedTable decidedAt tookFrameOf frameTable shownOf shownAt writes digitsOf decimalOf fieldOf typeText rowOf typeShown takenRowOf nextIn afterOf closedText endingOf smallOf withRow oneMoreOf pageFrom pageOf lastOf
-example = refl
-
--- an empty payload: "closed 10"
-pub none : written [] ≡ 99 ∷ 108 ∷ 111 ∷ 115 ∷ 101 ∷ 100 ∷ 32 ∷ 49 ∷ 48 ∷ 10 ∷ []
-unfolding limitsFit openingOf openingWhen decimalOf digitsOf fieldOf closedText endingOf smallOf pageFrom pageOf lastOf
-none = refl
+pub example : Example
+unfolding numberAt fieldAt valuesIn bigEndian shortest sizeOf formOf layouts layoutOf known admitted numbersAt optionalAt sizedAt countedAt rangedAt faultOf aboveOf frameOf endedAt partsAt fieldsAt headAt frameAt idOf listed placeOf finalOf reached countOf limitsFit openingOf rule1 rule2 rule3 rule4 rule5 endsOf endOf verdictOf connHeard entryHeard settledOf judgedOf isFresh entryFitsAs openFit connFits sumTo allTo fits gateOf openingWhen entriesOf requestOf requestAt decidedOf filledTo openedTable decidedAt tookFrameOf frameTable shownOf shownAt writes digitsOf decimalOf fieldOf typeText rowOf typeShown takenRowOf nextIn afterOf closedText endingOf smallOf withRow oneMoreOf pageFrom pageOf lastOf tooLong
+example = record {
+  example = refl;
+  none = refl;
+  stays-open = refl;
+  by-peer = refl;
+  by-application = refl;
+  unreadable = refl;
+  unreadable-later = refl;
+  unread-fields = refl;
+  unknown = refl;
+  not-admitted = refl;
+  not-shortest = refl;
+  too-long = refl;
+}

@@ -1,0 +1,51 @@
+-- Listings computed on the definitions, document 01, "Bench examples": each row of a payload and its last line, for each of the three ways in which that can end.
+use Prim.Native.Nat.{ℕ}
+use mathlib.Core.Path.{_≡_}
+use mathlib.Core.Bool.{true, false}
+use mathlib.Core.List.{List, [], _∷_, _++_, map}
+use lib.ListN.{length, take, replicate}
+use Rattle.report.specs.Listing.{tooLong, lastOf, endingOf}
+use Rattle.pages.specs.Pages.{smallOf, pageOf}
+use Rattle.pages.specs.declared.Page.{Page}
+
+-- a page before its first row
+abbrev pub first : Page
+first = record { conn = smallOf .opened .conn; table = smallOf .table; at = 0; used = 0; full = false }
+
+-- the rows of a payload and the last line after them, on a page of 100 bytes
+abbrev pub written : List ℕ → List ℕ
+written s = let r = pageOf first s (replicate 100 0) in take (r .0 .used) (r .1) ++ endingOf (lastOf (length s) (r .0 .conn .mark))
+
+pub record Example : Type 0 where
+  -- the example of document 01: PING, STREAM "hello" on stream 0, and a RESET_STREAM of stream 0 at 20, which breaks its credit: "0 1 0 0", "1 10 0 5", "9 4 3 5", "closed 3"
+  pub example : written (0x01 ∷ 0x0a ∷ 0x00 ∷ 0x05 ∷ 0x68 ∷ 0x65 ∷ 0x6c ∷ 0x6c ∷ 0x6f ∷ 0x04 ∷ 0x04 ∷ 0x00 ∷ 0x14 ∷ [])
+      ≡ 48 ∷ 32 ∷ 49 ∷ 32 ∷ 48 ∷ 32 ∷ 48 ∷ 10 ∷ 49 ∷ 32 ∷ 49 ∷ 48 ∷ 32 ∷ 48 ∷ 32 ∷ 53 ∷ 10 ∷ 57 ∷ 32 ∷ 52 ∷ 32 ∷ 51 ∷ 32 ∷ 53 ∷ 10 ∷ 99 ∷ 108 ∷ 111 ∷ 115 ∷ 101 ∷ 100 ∷ 32 ∷ 51 ∷ 10 ∷ []
+  -- "An empty payload prints the header and "closed 10""
+  pub none : written []
+      ≡ 99 ∷ 108 ∷ 111 ∷ 115 ∷ 101 ∷ 100 ∷ 32 ∷ 49 ∷ 48 ∷ 10 ∷ []
+  -- its first two frames alone: "0 1 0 0", "1 10 0 5", "open"
+  pub stays-open : written (0x01 ∷ 0x0a ∷ 0x00 ∷ 0x05 ∷ 0x68 ∷ 0x65 ∷ 0x6c ∷ 0x6c ∷ 0x6f ∷ [])
+      ≡ 48 ∷ 32 ∷ 49 ∷ 32 ∷ 48 ∷ 32 ∷ 48 ∷ 10 ∷ 49 ∷ 32 ∷ 49 ∷ 48 ∷ 32 ∷ 48 ∷ 32 ∷ 53 ∷ 10 ∷ 111 ∷ 112 ∷ 101 ∷ 110 ∷ 10 ∷ []
+  -- STREAM, CONNECTION_CLOSE and a PING that is not taken any more: "0 10 0 1", "4 28 0 1", "closed by peer"
+  pub by-peer : written (0x0a ∷ 0x00 ∷ 0x01 ∷ 0x61 ∷ 0x1c ∷ 0x00 ∷ 0x00 ∷ 0x00 ∷ 0x01 ∷ [])
+      ≡ 48 ∷ 32 ∷ 49 ∷ 48 ∷ 32 ∷ 48 ∷ 32 ∷ 49 ∷ 10 ∷ 52 ∷ 32 ∷ 50 ∷ 56 ∷ 32 ∷ 48 ∷ 32 ∷ 49 ∷ 10 ∷ 99 ∷ 108 ∷ 111 ∷ 115 ∷ 101 ∷ 100 ∷ 32 ∷ 98 ∷ 121 ∷ 32 ∷ 112 ∷ 101 ∷ 101 ∷ 114 ∷ 10 ∷ []
+  -- .. and its other type: "0 29 0 0", "closed by peer"
+  pub by-application : written (0x1d ∷ 0x00 ∷ 0x00 ∷ [])
+      ≡ 48 ∷ 32 ∷ 50 ∷ 57 ∷ 32 ∷ 48 ∷ 32 ∷ 48 ∷ 10 ∷ 99 ∷ 108 ∷ 111 ∷ 115 ∷ 101 ∷ 100 ∷ 32 ∷ 98 ∷ 121 ∷ 32 ∷ 112 ∷ 101 ∷ 101 ∷ 114 ∷ 10 ∷ []
+  -- "its type ("-" if unreadable)": "0 - 7 0", "closed 7"
+  pub unreadable : written (0x40 ∷ [])
+      ≡ 48 ∷ 32 ∷ 45 ∷ 32 ∷ 55 ∷ 32 ∷ 48 ∷ 10 ∷ 99 ∷ 108 ∷ 111 ∷ 115 ∷ 101 ∷ 100 ∷ 32 ∷ 55 ∷ 10 ∷ []
+  -- .. after PADDING: "0 0 0 0", "1 - 7 0", "closed 7"
+  pub unreadable-later : written (0x00 ∷ 0x80 ∷ 0x00 ∷ [])
+      ≡ 48 ∷ 32 ∷ 48 ∷ 32 ∷ 48 ∷ 32 ∷ 48 ∷ 10 ∷ 49 ∷ 32 ∷ 45 ∷ 32 ∷ 55 ∷ 32 ∷ 48 ∷ 10 ∷ 99 ∷ 108 ∷ 111 ∷ 115 ∷ 101 ∷ 100 ∷ 32 ∷ 55 ∷ 10 ∷ []
+  -- a type that was read is shown though its fields were not, or it is not known, not admitted or not in shortest form: "0 10 7 0", "0 31 7 0", "0 7 10 0", "0 1 10 0"
+  pub unread-fields : written (0x0a ∷ 0x00 ∷ 0x05 ∷ 0x68 ∷ [])
+      ≡ 48 ∷ 32 ∷ 49 ∷ 48 ∷ 32 ∷ 55 ∷ 32 ∷ 48 ∷ 10 ∷ 99 ∷ 108 ∷ 111 ∷ 115 ∷ 101 ∷ 100 ∷ 32 ∷ 55 ∷ 10 ∷ []
+  pub unknown : written (0x1f ∷ [])
+      ≡ 48 ∷ 32 ∷ 51 ∷ 49 ∷ 32 ∷ 55 ∷ 32 ∷ 48 ∷ 10 ∷ 99 ∷ 108 ∷ 111 ∷ 115 ∷ 101 ∷ 100 ∷ 32 ∷ 55 ∷ 10 ∷ []
+  pub not-admitted : written (0x07 ∷ 0x01 ∷ 0x61 ∷ [])
+      ≡ 48 ∷ 32 ∷ 55 ∷ 32 ∷ 49 ∷ 48 ∷ 32 ∷ 48 ∷ 10 ∷ 99 ∷ 108 ∷ 111 ∷ 115 ∷ 101 ∷ 100 ∷ 32 ∷ 49 ∷ 48 ∷ 10 ∷ []
+  pub not-shortest : written (0x40 ∷ 0x01 ∷ [])
+      ≡ 48 ∷ 32 ∷ 49 ∷ 32 ∷ 49 ∷ 48 ∷ 32 ∷ 48 ∷ 10 ∷ 99 ∷ 108 ∷ 111 ∷ 115 ∷ 101 ∷ 100 ∷ 32 ∷ 49 ∷ 48 ∷ 10 ∷ []
+  -- "at most 65,527 bytes, else the sole line "too long""
+  pub too-long : map tooLong (0 ∷ 65527 ∷ 65528 ∷ []) ≡ false ∷ false ∷ true ∷ []
