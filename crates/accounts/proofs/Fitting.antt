@@ -48,4 +48,5 @@ fitting = record {
   whole = refl;
   whole-total = refl;
   whole-entries = refl;
+  whole-conn = refl;
 }

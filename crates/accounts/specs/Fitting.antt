@@ -90,3 +90,5 @@ pub record Fitting : Type 0 where
   pub whole-total : map (λ total. fits (held 1 0 1 0 total Open) (set (set table 0 (growing 16 6)) 128 (growing 18 9))) (14 ∷ 15 ∷ 16 ∷ []) ≡ false ∷ true ∷ false ∷ []
   -- .. and each entry, to the last
   pub whole-entries : map (λ i. fits (opening 0 0 0 0) (set table i (growing 19 0))) (0 ∷ 63 ∷ 64 ∷ 127 ∷ 128 ∷ 191 ∷ []) ≡ false ∷ false ∷ false ∷ false ∷ false ∷ false ∷ []
+  -- .. and the connection: 3 may be open of type 0, and 5 of type 2
+  pub whole-conn : map (λ c. fits c table) (opening 3 64 5 64 ∷ opening 4 64 5 64 ∷ opening 3 64 6 64 ∷ opening 3 65 5 64 ∷ opening 3 64 5 65 ∷ []) ≡ true ∷ false ∷ false ∷ false ∷ false ∷ []

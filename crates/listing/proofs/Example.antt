@@ -37,15 +37,20 @@ pub example : Example
 unfolding numberAt fieldAt valuesIn bigEndian shortest sizeOf formOf layouts layoutOf known admitted numbersAt optionalAt sizedAt countedAt rangedAt faultOf aboveOf frameOf endedAt partsAt fieldsAt headAt frameAt idOf listed placeOf finalOf reached countOf limitsFit openingOf rule1 rule2 rule3 rule4 rule5 endsOf endOf verdictOf connHeard entryHeard settledOf judgedOf isFresh entryFitsAs openFit connFits sumTo allTo fits gateOf openingWhen entriesOf requestOf requestAt decidedOf filledTo openedTable decidedAt tookFrameOf frameTable shownOf shownAt writes digitsOf decimalOf fieldOf typeText rowOf typeShown takenRowOf nextIn afterOf closedText endingOf smallOf withRow oneMoreOf pageFrom pageOf lastOf tooLong
 example = record {
   example = refl;
-  none = refl;
   stays-open = refl;
+  none = refl;
   by-peer = refl;
   by-application = refl;
+  wider = refl;
   unreadable = refl;
   unreadable-later = refl;
   unread-fields = refl;
   unknown = refl;
   not-admitted = refl;
   not-shortest = refl;
+  page = refl;
+  page-full = refl;
+  page-waits = refl;
+  page-next = refl;
   too-long = refl;
 }

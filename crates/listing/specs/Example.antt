@@ -12,26 +12,33 @@ use Rattle.pages.specs.declared.Page.{Page}
 abbrev pub first : Page
 first = record { conn = smallOf .opened .conn; table = smallOf .table; at = 0; used = 0; full = false }
 
+-- the first page of a payload's rows, on a page of n bytes
+abbrev pub paged : ℕ → List ℕ → Page × List ℕ
+paged n s = pageOf first s (replicate n 0)
+
 -- the rows of a payload and the last line after them, on a page of 100 bytes
 abbrev pub written : List ℕ → List ℕ
-written s = let r = pageOf first s (replicate 100 0) in take (r .0 .used) (r .1) ++ endingOf (lastOf (length s) (r .0 .conn .mark))
+written s = let r = paged 100 s in take (r .0 .used) (r .1) ++ endingOf (lastOf (length s) (r .0 .conn .mark))
 
 pub record Example : Type 0 where
   -- the example of document 01: PING, STREAM "hello" on stream 0, and a RESET_STREAM of stream 0 at 20, which breaks its credit: "0 1 0 0", "1 10 0 5", "9 4 3 5", "closed 3"
   pub example : written (0x01 ∷ 0x0a ∷ 0x00 ∷ 0x05 ∷ 0x68 ∷ 0x65 ∷ 0x6c ∷ 0x6c ∷ 0x6f ∷ 0x04 ∷ 0x04 ∷ 0x00 ∷ 0x14 ∷ [])
       ≡ 48 ∷ 32 ∷ 49 ∷ 32 ∷ 48 ∷ 32 ∷ 48 ∷ 10 ∷ 49 ∷ 32 ∷ 49 ∷ 48 ∷ 32 ∷ 48 ∷ 32 ∷ 53 ∷ 10 ∷ 57 ∷ 32 ∷ 52 ∷ 32 ∷ 51 ∷ 32 ∷ 53 ∷ 10 ∷ 99 ∷ 108 ∷ 111 ∷ 115 ∷ 101 ∷ 100 ∷ 32 ∷ 51 ∷ 10 ∷ []
-  -- "An empty payload prints the header and "closed 10""
-  pub none : written []
-      ≡ 99 ∷ 108 ∷ 111 ∷ 115 ∷ 101 ∷ 100 ∷ 32 ∷ 49 ∷ 48 ∷ 10 ∷ []
   -- its first two frames alone: "0 1 0 0", "1 10 0 5", "open"
   pub stays-open : written (0x01 ∷ 0x0a ∷ 0x00 ∷ 0x05 ∷ 0x68 ∷ 0x65 ∷ 0x6c ∷ 0x6c ∷ 0x6f ∷ [])
       ≡ 48 ∷ 32 ∷ 49 ∷ 32 ∷ 48 ∷ 32 ∷ 48 ∷ 10 ∷ 49 ∷ 32 ∷ 49 ∷ 48 ∷ 32 ∷ 48 ∷ 32 ∷ 53 ∷ 10 ∷ 111 ∷ 112 ∷ 101 ∷ 110 ∷ 10 ∷ []
+  -- "An empty payload prints the header and "closed 10""
+  pub none : written []
+      ≡ 99 ∷ 108 ∷ 111 ∷ 115 ∷ 101 ∷ 100 ∷ 32 ∷ 49 ∷ 48 ∷ 10 ∷ []
   -- STREAM, CONNECTION_CLOSE and a PING that is not taken any more: "0 10 0 1", "4 28 0 1", "closed by peer"
   pub by-peer : written (0x0a ∷ 0x00 ∷ 0x01 ∷ 0x61 ∷ 0x1c ∷ 0x00 ∷ 0x00 ∷ 0x00 ∷ 0x01 ∷ [])
       ≡ 48 ∷ 32 ∷ 49 ∷ 48 ∷ 32 ∷ 48 ∷ 32 ∷ 49 ∷ 10 ∷ 52 ∷ 32 ∷ 50 ∷ 56 ∷ 32 ∷ 48 ∷ 32 ∷ 49 ∷ 10 ∷ 99 ∷ 108 ∷ 111 ∷ 115 ∷ 101 ∷ 100 ∷ 32 ∷ 98 ∷ 121 ∷ 32 ∷ 112 ∷ 101 ∷ 101 ∷ 114 ∷ 10 ∷ []
   -- .. and its other type: "0 29 0 0", "closed by peer"
   pub by-application : written (0x1d ∷ 0x00 ∷ 0x00 ∷ [])
       ≡ 48 ∷ 32 ∷ 50 ∷ 57 ∷ 32 ∷ 48 ∷ 32 ∷ 48 ∷ 10 ∷ 99 ∷ 108 ∷ 111 ∷ 115 ∷ 101 ∷ 100 ∷ 32 ∷ 98 ∷ 121 ∷ 32 ∷ 112 ∷ 101 ∷ 101 ∷ 114 ∷ 10 ∷ []
+  -- numbers of two digits: "0 10 0 16", "19 1 0 16", "20 10 0 16", "open"
+  pub wider : written (0x0a ∷ 0x00 ∷ 0x10 ∷ 0x61 ∷ 0x61 ∷ 0x61 ∷ 0x61 ∷ 0x61 ∷ 0x61 ∷ 0x61 ∷ 0x61 ∷ 0x61 ∷ 0x61 ∷ 0x61 ∷ 0x61 ∷ 0x61 ∷ 0x61 ∷ 0x61 ∷ 0x61 ∷ 0x01 ∷ 0x0a ∷ 0x04 ∷ 0x00 ∷ [])
+      ≡ 48 ∷ 32 ∷ 49 ∷ 48 ∷ 32 ∷ 48 ∷ 32 ∷ 49 ∷ 54 ∷ 10 ∷ 49 ∷ 57 ∷ 32 ∷ 49 ∷ 32 ∷ 48 ∷ 32 ∷ 49 ∷ 54 ∷ 10 ∷ 50 ∷ 48 ∷ 32 ∷ 49 ∷ 48 ∷ 32 ∷ 48 ∷ 32 ∷ 49 ∷ 54 ∷ 10 ∷ 111 ∷ 112 ∷ 101 ∷ 110 ∷ 10 ∷ []
   -- "its type ("-" if unreadable)": "0 - 7 0", "closed 7"
   pub unreadable : written (0x40 ∷ [])
       ≡ 48 ∷ 32 ∷ 45 ∷ 32 ∷ 55 ∷ 32 ∷ 48 ∷ 10 ∷ 99 ∷ 108 ∷ 111 ∷ 115 ∷ 101 ∷ 100 ∷ 32 ∷ 55 ∷ 10 ∷ []
@@ -47,5 +54,10 @@ pub record Example : Type 0 where
       ≡ 48 ∷ 32 ∷ 55 ∷ 32 ∷ 49 ∷ 48 ∷ 32 ∷ 48 ∷ 10 ∷ 99 ∷ 108 ∷ 111 ∷ 115 ∷ 101 ∷ 100 ∷ 32 ∷ 49 ∷ 48 ∷ 10 ∷ []
   pub not-shortest : written (0x40 ∷ 0x01 ∷ [])
       ≡ 48 ∷ 32 ∷ 49 ∷ 32 ∷ 49 ∷ 48 ∷ 32 ∷ 48 ∷ 10 ∷ 99 ∷ 108 ∷ 111 ∷ 115 ∷ 101 ∷ 100 ∷ 32 ∷ 49 ∷ 48 ∷ 10 ∷ []
+  -- two PINGs on a page that holds both rows, "0 1 0 0" and "1 1 0 0", and on one that lacks a byte: the second row waits, nothing of it is written, and the next page begins with it
+  pub page : paged 16 (1 ∷ 1 ∷ []) .1 ≡ 48 ∷ 32 ∷ 49 ∷ 32 ∷ 48 ∷ 32 ∷ 48 ∷ 10 ∷ 49 ∷ 32 ∷ 49 ∷ 32 ∷ 48 ∷ 32 ∷ 48 ∷ 10 ∷ []
+  pub page-full : paged 15 (1 ∷ 1 ∷ []) .1 ≡ 48 ∷ 32 ∷ 49 ∷ 32 ∷ 48 ∷ 32 ∷ 48 ∷ 10 ∷ replicate 7 0
+  pub page-waits : paged 15 (1 ∷ 1 ∷ []) .0 .full ≡ true
+  pub page-next : pageOf (paged 15 (1 ∷ 1 ∷ []) .0) (1 ∷ 1 ∷ []) (replicate 9 0) .1 ≡ 49 ∷ 32 ∷ 49 ∷ 32 ∷ 48 ∷ 32 ∷ 48 ∷ 10 ∷ 0 ∷ []
   -- "at most 65,527 bytes, else the sole line "too long""
   pub too-long : map tooLong (0 ∷ 65527 ∷ 65528 ∷ []) ≡ false ∷ false ∷ true ∷ []
