@@ -46,6 +46,7 @@ fitting = record {
   rest-unfit = refl;
   parts = refl;
   whole = refl;
+  whole-short = refl;
   whole-total = refl;
   whole-entries = refl;
   whole-conn = refl;

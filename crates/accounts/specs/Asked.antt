@@ -32,6 +32,8 @@ pub record Asked : Type 0 where
   -- offset plus length as far as 64 bits hold it
   pub end-sums : endOf 0 0 ≡ 0
   pub end-highest : endOf (2 ^ 62 - 2) 1 ≡ 2 ^ 62 - 1
+  pub end-next : endOf (2 ^ 62 - 1) 1 ≡ 2 ^ 62
+  pub end-long : endOf (2 ^ 64 - 3) 1 ≡ 2 ^ 64 - 2
   pub end-longest : endOf (2 ^ 64 - 2) 1 ≡ 2 ^ 64 - 1
   pub end-no-length : endOf (2 ^ 64 - 1) 0 ≡ 2 ^ 64 - 1
   pub end-above : endOf (2 ^ 64 - 1) 1 ≡ 2 ^ 64 - 1

@@ -15,7 +15,7 @@ use Rattle.entries.specs.declared.Entry.{Entry}
 use Rattle.calls.specs.declared.Call.{Call}
 use Rattle.calls.specs.declared.Call.the-variants.{RaiseCredit, RaiseStream, RaiseCount, OpenNext}
 use Rattle.calls.specs.declared.Replied.{Replied}
-use Rattle.calls.specs.Calls.{streamIn, repliedOf}
+use Rattle.calls.specs.Calls.{streamIn, raiseOf, repliedOf}
 use Rattle.accounts.specs.Borders.{limits, held, before, entry, growing, called}
 
 -- the connection before, closed with a code or by the peer
@@ -103,9 +103,12 @@ pub record Calls : Type 0 where
   pub not-served-above : called (held 64 64 64 64 20 Open) (growing 16 6) (RaiseStream 256 (2 ^ 62) ∷ RaiseStream 3 (2 ^ 62) ∷ RaiseCount 1 65 ∷ RaiseCount 3 65 ∷ RaiseCount 4 65 ∷ OpenNext 0 ∷ OpenNext 2 ∷ OpenNext 5 ∷ OpenNext 7 ∷ []) ≡ 104 ∷ 104 ∷ 104 ∷ 104 ∷ 104 ∷ 104 ∷ 104 ∷ 104 ∷ 104 ∷ []
   -- .. and before 102
   pub not-served-same : called before (growing 16 6) (RaiseStream 4 16 ∷ RaiseStream 3 16 ∷ RaiseCount 1 2 ∷ RaiseCount 3 4 ∷ RaiseCount 4 3 ∷ []) ≡ 104 ∷ 104 ∷ 104 ∷ 104 ∷ 104 ∷ []
-  -- 105 before 103 and 102; a final size of 0 is known. (103 and 102 cannot meet: no present value is above its ceiling, or the answer was 120)
+  -- 105 before 103 and 102; a final size of 0 is known
   pub known-first : called before (entry 16 6 6) (RaiseStream 0 (2 ^ 62) ∷ RaiseStream 0 16 ∷ RaiseStream 0 17 ∷ []) ≡ 105 ∷ 105 ∷ 105 ∷ []
   pub known-empty : called before (entry 16 0 0) (RaiseStream 0 17 ∷ []) ≡ 105 ∷ []
+  -- 103 and 102 cannot meet in a call: no present value is above its ceiling, or the answer was 120 before. In the rule itself 103 is first
+  pub above-first : map (λ new. numberOf (raiseOf 70 new 64)) (0 ∷ 64 ∷ 65 ∷ 70 ∷ 71 ∷ []) ≡ 102 ∷ 102 ∷ 103 ∷ 103 ∷ 103 ∷ []
+  pub raises : map (λ new. numberOf (raiseOf 60 new 64)) (59 ∷ 60 ∷ 61 ∷ 64 ∷ 65 ∷ []) ≡ 102 ∷ 102 ∷ 0 ∷ 0 ∷ 103 ∷ []
   -- a final size is asked for by no call but the raise of its stream's credit
   pub known-others : called before (entry 16 6 6) (RaiseCredit 41 ∷ RaiseCount 0 4 ∷ OpenNext 1 ∷ []) ≡ 0 ∷ 0 ∷ 0 ∷ []
   -- the stream whose entry a call looks at

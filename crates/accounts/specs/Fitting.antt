@@ -86,6 +86,8 @@ pub record Fitting : Type 0 where
   pub parts : map (partOf before) (0 ∷ 1 ∷ 2 ∷ []) ≡ record { credit = 40; opened = 1; initial = 16 } ∷ record { credit = 40; opened = 2; initial = 17 } ∷ record { credit = 40; opened = 3; initial = 18 } ∷ []
   -- the whole check: "it is not 192 entries" ..
   pub whole : map (fits (opening 0 0 0 0)) (table ∷ take 191 table ∷ (table ++ (growing 18 0 ∷ [])) ∷ [] ∷ []) ≡ true ∷ false ∷ false ∷ false ∷ []
+  -- .. also where nothing would be missing from a missing entry: type 2 has no initial credit here
+  pub whole-short : map (fits (limited (limits 40 3 5 16 17 0))) (opened (limits 40 3 5 16 17 0) .table ∷ take 191 (opened (limits 40 3 5 16 17 0) .table) ∷ []) ≡ true ∷ false ∷ []
   -- .. "the total is not the sum of the ends" ..
   pub whole-total : map (λ total. fits (held 1 0 1 0 total Open) (set (set table 0 (growing 16 6)) 128 (growing 18 9))) (14 ∷ 15 ∷ 16 ∷ []) ≡ false ∷ true ∷ false ∷ []
   -- .. and each entry, to the last

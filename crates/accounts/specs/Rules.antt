@@ -14,7 +14,7 @@ use Rattle.entries.specs.declared.Final.the-variants.{Unknown, Known}
 use Rattle.entries.specs.Entry.{finalOf, fresh}
 use Rattle.views.specs.declared.View.the-variants.{Ends, Blocks, ForSender, Acks}
 use Rattle.views.specs.View.{viewOf}
-use Rattle.rules.specs.Rules.{rule3}
+use Rattle.rules.specs.Rules.{rule3, rule5}
 use Rattle.verdicts.specs.Verdict.{verdictOf}
 use Rattle.accounts.specs.Borders.{limits, held, entry, growing, heard}
 
@@ -56,6 +56,10 @@ pub record Rules : Type 0 where
   -- without FIN and without a known final size it refuses no end
   pub never-final : ending (held 3 0 0 0 10 Open) (growing 16 10) false (0 ∷ 9 ∷ 10 ∷ 11 ∷ 16 ∷ []) ≡ 0 ∷ 0 ∷ 0 ∷ 0 ∷ 0 ∷ []
   pub any-end : map (λ end. rule3 Unknown 10 end false) (0 ∷ 9 ∷ 10 ∷ 11 ∷ (2 ^ 62 - 1) ∷ []) ≡ false ∷ false ∷ false ∷ false ∷ false ∷ []
+  -- each arm alone: an end above the known size; FIN with another end, where less has come; FIN below what has come
+  pub third-rule : map (λ end. rule3 (Known 10) 4 end false) (3 ∷ 4 ∷ 10 ∷ 11 ∷ []) ≡ false ∷ false ∷ false ∷ true ∷ []
+  pub third-rule-final : map (λ end. rule3 (Known 10) 4 end true) (3 ∷ 4 ∷ 9 ∷ 10 ∷ 11 ∷ []) ≡ true ∷ true ∷ true ∷ false ∷ true ∷ []
+  pub third-rule-unknown : map (λ end. rule3 Unknown 4 end true) (3 ∷ 4 ∷ 5 ∷ []) ≡ true ∷ false ∷ false ∷ []
   -- a stream that ended with nothing
   pub ended-empty : ending (held 3 0 0 0 0 Open) (entry 16 0 0) false (0 ∷ 1 ∷ []) ≡ 0 ∷ 6 ∷ []
   pub ended-empty-final : ending (held 3 0 0 0 0 Open) (entry 16 0 0) true (0 ∷ 1 ∷ []) ≡ 0 ∷ 6 ∷ []
@@ -64,6 +68,7 @@ pub record Rules : Type 0 where
   pub fourth-rule-raised : ending (held 1 0 0 0 0 Open) (fresh 20) true (16 ∷ 17 ∷ 20 ∷ 21 ∷ []) ≡ 0 ∷ 0 ∷ 0 ∷ 3 ∷ []
   -- 5. "total plus growth of the furthest end above the connection credit: 3", alone: the stream credit 16 would allow each; from 4 to 14 the growth is 10
   pub fifth-rule : ending (held 1 0 0 0 30 Open) (growing 16 4) false (4 ∷ 13 ∷ 14 ∷ 15 ∷ 16 ∷ []) ≡ 0 ∷ 0 ∷ 0 ∷ 3 ∷ 3 ∷ []
+  pub fifth-rule-alone : map (λ total. map (rule5 40 total 6) (0 ∷ 6 ∷ 7 ∷ 8 ∷ [])) (39 ∷ 40 ∷ 41 ∷ []) ≡ (false ∷ false ∷ false ∷ true ∷ []) ∷ (false ∷ false ∷ true ∷ true ∷ []) ∷ (true ∷ true ∷ true ∷ true ∷ []) ∷ []
   -- .. and an end that brings no growth passes where nothing is left
   pub no-growth : ending (held 1 0 0 0 40 Open) (growing 16 4) false (0 ∷ 3 ∷ 4 ∷ 5 ∷ []) ≡ 0 ∷ 0 ∷ 0 ∷ 3 ∷ []
   pub no-growth-final : ending (held 1 0 0 0 40 Open) (growing 16 4) true (3 ∷ 4 ∷ 5 ∷ []) ≡ 6 ∷ 0 ∷ 3 ∷ []
