@@ -40,6 +40,7 @@ left = record {
   asks-nothing = refl;
   conn-heard = refl;
   entry-heard = refl;
+  conn-heard-closed = refl;
   refused-state = refl;
   refused-limit = refl;
   refused-size = refl;

@@ -15,7 +15,7 @@ use Rattle.entries.specs.declared.Entry.{Entry}
 use Rattle.calls.specs.declared.Call.{Call}
 use Rattle.calls.specs.declared.Call.the-variants.{RaiseCredit, RaiseStream, RaiseCount, OpenNext}
 use Rattle.calls.specs.declared.Replied.{Replied}
-use Rattle.calls.specs.Calls.{streamIn, raiseOf, repliedOf}
+use Rattle.calls.specs.Calls.{streamIn, raiseOf, connCalled, repliedOf}
 use Rattle.accounts.specs.Borders.{limits, held, before, entry, growing, called}
 
 -- the connection before, closed with a code or by the peer
@@ -111,6 +111,9 @@ pub record Calls : Type 0 where
   pub raises : map (λ new. numberOf (raiseOf 60 new 64)) (59 ∷ 60 ∷ 61 ∷ 64 ∷ 65 ∷ []) ≡ 102 ∷ 102 ∷ 0 ∷ 0 ∷ 103 ∷ []
   -- a final size is asked for by no call but the raise of its stream's credit
   pub known-others : called before (entry 16 6 6) (RaiseCredit 41 ∷ RaiseCount 0 4 ∷ OpenNext 1 ∷ []) ≡ 0 ∷ 0 ∷ 0 ∷ []
+  -- what is left when accepted, asked without the answer: whatever the mark
+  pub credit-closed : connCalled (closedAs ByPeer) (RaiseCredit 41) .mark ≡ ByPeer
+  pub count-closed : connCalled (closedAs ByPeer) (RaiseCount 0 4) .mark ≡ ByPeer
   -- the stream whose entry a call looks at
   pub looks-at : map streamIn (RaiseCredit 41 ∷ RaiseStream 5 17 ∷ RaiseCount 2 6 ∷ OpenNext 3 ∷ []) ≡ 0 ∷ 5 ∷ 0 ∷ 0 ∷ []
   -- "a call hands out the next number of a space, from 0": of each space its own, and nothing else changes

@@ -73,6 +73,8 @@ pub record Left : Type 0 where
   -- what is left when accepted, asked without the answer
   pub conn-heard : connHeard before (growing 16 6) (Ends 8 10 true) ≡ held 3 2 3 4 24 Open
   pub entry-heard : entryHeard (growing 16 6) (Ends 8 10 true) ≡ entry 16 10 10
+  -- .. whatever the mark
+  pub conn-heard-closed : connHeard (held 1 2 3 4 20 ByPeer) (growing 16 6) (Ends 8 10 true) ≡ held 3 2 3 4 24 ByPeer
   -- refused by each rule: "closed with code and type"; nothing is opened, counted or set
   pub refused-state : judgedOf before (growing 16 6) 8 (Ends 3 10 true) ≡ refused StreamState 8 (growing 16 6)
   pub refused-limit : judgedOf before (growing 16 6) 9 (Ends 12 10 true) ≡ refused StreamLimit 9 (growing 16 6)
