@@ -1,5 +1,5 @@
 -- What each frame leaves, whole: the answer, the connection in all its parts and the entry, on a connection all of whose numbers differ. Document 01, "Acceptance sets furthest end, total and, where given, final size. It opens all lower ordinals of the type", and "it changes nothing itself, the connection closes with its code and type".
-use Prim.Native.Nat.{ℕ, _-_, _^_}
+use Prim.Native.Nat.{ℕ}
 use mathlib.Core.Path.{_≡_}
 use mathlib.Core.Bool.{true, false}
 use Rattle.answers.specs.declared.Answer.{Answer}
