@@ -1,6 +1,6 @@
 -- The stream count of a half, by who opens its streams; and a number set in a row, looked at again.
 -- Assumes nothing.
-use Prim.Native.Nat.{ℕ, _≤_, _<_, max, _+_, _%_, _/_}
+use Prim.Native.Nat.{ℕ, _≤_}
 use mathlib.Core.Path.{_≡_, refl, sym, _∙_, ap}
 use mathlib.Core.Bool.{true, false}
 use mathlib.Core.List.{List}
