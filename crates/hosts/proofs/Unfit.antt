@@ -36,7 +36,7 @@ use Rattle.walks.specs.Walk.{decidedAt, walkFrom}
 use Rattle.endings.specs.Finish.{finishOf}
 use Rattle.receive.specs.Taking.{tookFrameOf, frameTable, tookOf, tookTable}
 use Rattle.calls.specs.Calls as calls
-use Rattle.bench.specs.Unfit.{Unfit}
+use Rattle.hosts.specs.Unfit.{Unfit}
 
 pub unfit : Unfit
 unfolding numberAt fieldAt valuesIn bigEndian shortest sizeOf formOf belowOf rangeAt rangesAt layouts layoutOf known numbersAt optionalAt sizedAt countedAt remainderAt identityAt rangedAt faultOf aboveOf tooMany misissuedOf endedAt partsAt headAt admitted frameOf fieldsAt frameAt nearestOf recoveredOf bit bitAt unmarked recorded noneOf testOf soundOf wordOf listOf slotOf ringOf withMark takenOf idOf listed placeOf finalOf reached isFresh entryFitsAs countOf limitsFit handedOutOf openingOf openingWhen entriesOf endOf rule1 rule2 rule3 rule4 rule5 endsOf blockedOf forSenderOf verdictOf connHeard entryHeard settledOf judgedOf raiseOf replyOf ruledOf repliedOf openFit connFits sumTo allTo fits headerOf sizeIn reservedOf recordsFit recordedOf refusedOf closesOf testedOf inSpaceOf beginOf gateOf requestOf requestAt decidedOf filledTo openedTable calledAt calledTable decidedAt walkFrom finishOf tookFrameOf frameTable tookOf tookTable calls.settledOf

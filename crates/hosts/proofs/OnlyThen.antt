@@ -33,7 +33,7 @@ use Rattle.demands.specs.Demand3.{Fitted}
 use Rattle.demands.proofs.Frames.{barred}
 use Rattle.demands.proofs.OneByOne.{header-refused}
 use Rattle.demands.proofs.Fitting.{answer-fits}
-use Rattle.bench.specs.OnlyThen.{doesNotFit, RecordsLeft, OnlyThen}
+use Rattle.hosts.specs.OnlyThen.{doesNotFit, RecordsLeft, OnlyThen}
 
 -- ---- 120 where it does not fit
 
