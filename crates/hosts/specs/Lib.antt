@@ -3,3 +3,5 @@ pub mod OnlyThen
 pub mod Order
 pub mod Stops
 pub mod Openings
+pub mod Expected
+pub mod Spaces
