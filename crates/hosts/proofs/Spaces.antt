@@ -40,11 +40,16 @@ spaces = record {
   in-handshake = refl;
   in-application = refl;
   recorded-in = refl;
+  others-kept = refl;
   own-expected = refl;
   expected = refl;
   expected-recorded = refl;
   from-none = refl;
   lengths = refl;
+  carried-ping = refl;
+  carried-ack = refl;
+  carried-max-data = refl;
+  carried-path-response = refl;
   acknowledged = refl;
   not-handed-out = refl;
 }

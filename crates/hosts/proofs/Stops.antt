@@ -41,6 +41,7 @@ pub stops : Stops
 unfolding numberAt fieldAt valuesIn bigEndian shortest sizeOf formOf belowOf rangeAt rangesAt layouts layoutOf known numbersAt optionalAt sizedAt countedAt remainderAt identityAt rangedAt faultOf aboveOf tooMany misissuedOf endedAt partsAt headAt admitted frameOf fieldsAt frameAt nearestOf recoveredOf bit bitAt unmarked recorded noneOf testOf soundOf wordOf listOf slotOf ringOf withMark takenOf idOf listed placeOf finalOf reached isFresh entryFitsAs countOf limitsFit handedOutOf openingOf openingWhen entriesOf endOf rule1 rule2 rule3 rule4 rule5 endsOf blockedOf forSenderOf verdictOf connHeard entryHeard settledOf judgedOf raiseOf replyOf ruledOf repliedOf openFit connFits sumTo allTo fits headerOf sizeIn reservedOf recordsFit recordedOf refusedOf closesOf testedOf inSpaceOf beginOf gateOf requestOf requestAt decidedOf filledTo openedTable calledAt calledTable decidedAt walkFrom finishOf tookFrameOf frameTable tookOf tookTable
 stops = record {
   all-pass = refl;
+  short-frames = refl;
   refused-credit = refl;
   refused-count = refl;
   refused-state = refl;
@@ -52,4 +53,7 @@ stops = record {
   refused-not-admitted = refl;
   refused-field = refl;
   closed-by-peer = refl;
+  closed-by-application = refl;
+  application-place = refl;
+  application-recorded = refl;
 }

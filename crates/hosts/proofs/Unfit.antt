@@ -46,6 +46,7 @@ unfit = record {
   unopened-credits = refl;
   unopened-ends = refl;
   unopened-sizes = refl;
+  unopened-borders = refl;
   open-ones = refl;
   totals = refl;
   total-within = refl;

@@ -15,9 +15,11 @@ use Rattle.opening.specs.Opening.{openingWhen}
 use Rattle.local.specs.Table.{openedTable}
 use Rattle.hosts.specs.Unfit.{limitsOf, sized, plain}
 
+-- limits that grant nothing
 abbrev pub noLimits : Limits
 noLimits = limitsOf 0 0 0 0 0 0
 
+-- a connection of which nothing came
 abbrev pub connOf : Limits → Mark → Conn
 connOf limits mark = record { limits = limits; opened = 0 ∷ 0 ∷ 0 ∷ 0 ∷ []; total = 0; next = 0 ∷ 0 ∷ 0 ∷ []; mark = mark }
 

@@ -68,6 +68,7 @@ lastHeld = each (record { words = replicate 127 0 ++ (2 ^ 63 ∷ []); top = 2 ^ 
 pub record Order : Type 0 where
   -- "The order of checks: 120; closed 101": of every call. Handing out a number "ignore[s] the closing mark"
   pub unfit-closed : map (λ (mark : Mark). answersOf (unfit mark)) (ByPeer ∷ Code FlowControl 8 ∷ []) ≡ replicate 2 (replicate 6 120)
+  pub unfit-first : AllGet (unfit ByPeer) held 120 ((0xf0, []) ∷ (0x00, []) ∷ (0x40, []) ∷ (0x40, 0 ∷ 1 ∷ []) ∷ (0x58, 1 ∷ []) ∷ [])
   pub fit-closed : map (λ (mark : Mark). answersOf (marked mark)) (ByPeer ∷ Code FlowControl 8 ∷ []) ≡ replicate 2 (replicate 6 101)
   pub closed-same : statesOf (marked (Code FlowControl 8)) ≡ replicate 6 (marked (Code FlowControl 8))
   pub closed-hands-out : map (λ (mark : Mark). numberOf (answered (marked mark) (HandOut Application))) (ByPeer ∷ Code FlowControl 8 ∷ []) ≡ 0 ∷ 0 ∷ []

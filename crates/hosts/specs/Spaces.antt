@@ -2,7 +2,7 @@
 use Prim.Native.Nat.{ℕ, _^_}
 use mathlib.Core.Path.{_≡_}
 use mathlib.Core.List.{List, [], _∷_, map}
-use lib.ListN.{replicate}
+use lib.ListN.{replicate, getD}
 use Rattle.answers.specs.Answers.{numberOf}
 use Rattle.records.specs.declared.Record.{Record}
 use Rattle.records.specs.Marks.{noneOf}
@@ -47,6 +47,14 @@ kinds = 0xc0 ∷ 0xd0 ∷ 0xe0 ∷ 0x40 ∷ []
 abbrev pub inEachKind : Records → List ℕ
 inEachKind rs = map (λ (first : ℕ). numberOf (answered live (TakePacket rs first (1 ∷ 1 ∷ [])))) kinds
 
+-- the records after a packet with the number 8,193
+abbrev pub left : ℕ → Records
+left first = recordsAfter live held first (1 ∷ 1 ∷ [])
+
+-- the top and the first word of each of three records
+abbrev pub shapes : Records → List ℕ
+shapes rs = rs .initial .top ∷ getD (rs .initial .words) 0 0 ∷ rs .handshake .top ∷ getD (rs .handshake .words) 0 0 ∷ rs .application .top ∷ getD (rs .application .words) 0 0 ∷ []
+
 -- the number of a packet, as the checks before its frames found it
 abbrev pub numberIn : Records → ℕ → List ℕ → ℕ
 numberIn rs first s = begunOf (live .conn) rs (live .table) first s .number
@@ -59,13 +67,23 @@ sent = wholeHost plain (1 ∷ 2 ∷ 64 ∷ 1 ∷ []) 18 (1 ∷ 2 ∷ 3 ∷ []) O
 abbrev pub acknowledging : ℕ → List ℕ
 acknowledging n = 1 ∷ 0x02 ∷ n ∷ 0 ∷ 0 ∷ 0 ∷ []
 
+-- the answers to a frame in a packet of each kind
+abbrev pub carried : List ℕ → List ℕ
+carried s = map (λ (first : ℕ). numberOf (answered live (TakePacket held first (1 ∷ s)))) kinds
+
 pub record Spaces : Type 0 where
   -- "Already in it: 107": a number recorded in one space is new in the others; 0-RTT and 1-RTT share one
   pub in-initial : inEachKind (records two one one) ≡ 107 ∷ 0 ∷ 0 ∷ 0 ∷ []
   pub in-handshake : inEachKind (records one two one) ≡ 0 ∷ 0 ∷ 107 ∷ 0 ∷ []
   pub in-application : inEachKind (records one one two) ≡ 0 ∷ 107 ∷ 0 ∷ 107 ∷ []
-  -- "If all pass, the number is recorded": in the record of its space, and the other two stay
-  pub recorded-in : map (λ (first : ℕ). recordsAfter live held first (1 ∷ 1 ∷ [])) kinds ≡ records two one one ∷ records one one two ∷ records one two one ∷ records one one two ∷ []
+  -- "If all pass, the number is recorded": in the record of its space, and the other two stay; what else a record then holds is a law (crate demands, `Recorded`)
+  pub recorded-in : map (λ (first : ℕ). shapes (left first)) kinds
+      ≡ (8194 ∷ 3 ∷ 8193 ∷ 1 ∷ 8193 ∷ 1 ∷ [])
+      ∷ (8193 ∷ 1 ∷ 8193 ∷ 1 ∷ 8194 ∷ 3 ∷ [])
+      ∷ (8193 ∷ 1 ∷ 8194 ∷ 3 ∷ 8193 ∷ 1 ∷ [])
+      ∷ (8193 ∷ 1 ∷ 8193 ∷ 1 ∷ 8194 ∷ 3 ∷ [])
+      ∷ []
+  pub others-kept : left 0xc0 .handshake ∷ left 0xc0 .application ∷ left 0xd0 .initial ∷ left 0xd0 .handshake ∷ left 0xe0 .initial ∷ left 0xe0 .application ∷ left 0x40 .initial ∷ left 0x40 .handshake ∷ [] ≡ replicate 8 one
   -- "with E one above the largest number recorded (0 if none)": E is 8,193, 8,393 and 8,593 in the three spaces, and one byte 1 stands for 8,193, 8,449 and 8,705; with nothing, 127 and 128 recorded it stands for 1, 1 and 257
   pub own-expected : map (λ (first : ℕ). numberIn (records one only8392 only8592) first (1 ∷ 1 ∷ [])) kinds ≡ 8193 ∷ 8705 ∷ 8449 ∷ 8705 ∷ []
   pub expected : map (λ (R : Record). numberIn (records one one R) 0x40 (1 ∷ 1 ∷ [])) (noneOf ∷ only127 ∷ only128 ∷ []) ≡ 1 ∷ 1 ∷ 257 ∷ []
@@ -74,6 +92,11 @@ pub record Spaces : Type 0 where
   pub from-none : map (λ (t : ℕ). numberIn (records one one noneOf) 0x40 (t ∷ 1 ∷ [])) (129 ∷ 255 ∷ []) ≡ 129 ∷ 255 ∷ []
   -- "The low two bits of the plain first byte, plus one, give the length of the number"
   pub lengths : map (λ (p : ℕ × List ℕ). numberIn held (p .0) (p .1)) ((0xc0, 2 ∷ 1 ∷ []) ∷ (0xd1, 0x20 ∷ 2 ∷ 1 ∷ []) ∷ (0xe2, 0 ∷ 0x20 ∷ 2 ∷ 1 ∷ []) ∷ (0xc3, 0 ∷ 0 ∷ 0x20 ∷ 2 ∷ 1 ∷ []) ∷ []) ≡ replicate 4 8194
+  -- "admitted in this packet kind": the frames of a packet are those of its kind. PING, ACK, MAX_DATA, PATH_RESPONSE
+  pub carried-ping : carried (0x01 ∷ []) ≡ 0 ∷ 0 ∷ 0 ∷ 0 ∷ []
+  pub carried-ack : carried (0x02 ∷ 0 ∷ 0 ∷ 0 ∷ 0 ∷ []) ≡ 0 ∷ 10 ∷ 0 ∷ 0 ∷ []
+  pub carried-max-data : carried (0x10 ∷ 5 ∷ []) ≡ 10 ∷ 0 ∷ 10 ∷ 0 ∷ []
+  pub carried-path-response : carried (0x1b ∷ replicate 8 5) ≡ 10 ∷ 10 ∷ 10 ∷ 0 ∷ []
   -- "An ACK of a number not yet handed out in its space is 10"
   pub acknowledged : AllGet sent held 0 ((0xc0, acknowledging 0) ∷ (0xe0, acknowledging 1) ∷ (0x40, acknowledging 2) ∷ [])
   pub not-handed-out : AllGet sent held 10 ((0xc0, acknowledging 1) ∷ (0xe0, acknowledging 2) ∷ (0x40, acknowledging 3) ∷ [])

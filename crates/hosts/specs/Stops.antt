@@ -1,7 +1,7 @@
 -- Document 01, "The walk stops at the first frame that is refused": a packet refused in its middle, by each kind of refusal, one that ends with CONNECTION_CLOSE and one of which all pass; each with all that it leaves.
 use Prim.Native.Nat.{ℕ}
 use mathlib.Core.Path.{_≡_}
-use mathlib.Core.List.{List, [], _∷_, _++_, map}
+use mathlib.Core.List.{List, [], _∷_, _++_}
 use lib.ListN.{replicate, set}
 use Rattle.answers.specs.declared.Answer.{Answer}
 use Rattle.answers.specs.declared.Answer.the-variants.{Accepted, FlowControl, StreamLimit, StreamState, FinalSize, FrameEncoding, ProtocolViolation}
@@ -10,7 +10,7 @@ use Rattle.streams.specs.declared.Mark.the-variants.{Open, Code, ByPeer}
 use Rattle.spaces.specs.declared.Records.{Records}
 use Rattle.accounts.specs.History.{State}
 use Rattle.hosts.specs.Unfit.{unsized, wholeHost, plain, firstMarked}
-use Rattle.hosts.specs.Order.{Outcome, outcome, ending, table, live, held}
+use Rattle.hosts.specs.Order.{Outcome, outcome, ending, table, marked, live, held}
 
 -- with 8,193 recorded in the last space
 abbrev pub recordedNext : Records
@@ -43,6 +43,8 @@ refusedIn answer ty = ending answer 8 (heard (Code answer ty)) held
 pub record Stops : Type 0 where
   -- "then the frames": "If all pass, the number is recorded", and the place is their end
   pub all-pass : outcome live held (0x40, before) ≡ ending Accepted 8 (heard Open) recordedNext
+  -- no frame is passed over, however many there are: each PADDING byte is one, and the last byte of the packet is looked at
+  pub short-frames : outcome live held (0x40, 1 ∷ 0x00 ∷ 0x01 ∷ 0x00 ∷ 0x00 ∷ 0x01 ∷ 0x01 ∷ 0x1f ∷ []) ≡ ending FrameEncoding 7 (marked (Code FrameEncoding 0x1f)) held
   -- "The walk stops at the first frame that is refused": rules 4, 2, 1 and 3; what stands behind it is not looked at
   pub refused-credit : goingOn (0x0e ∷ 4 ∷ 15 ∷ 2 ∷ 0x61 ∷ 0x61 ∷ 0x1f ∷ []) ≡ refusedIn FlowControl 0x0e
   pub refused-count : goingOn (0x0a ∷ 16 ∷ 0 ∷ 0x01 ∷ []) ≡ refusedIn StreamLimit 0x0a
@@ -56,4 +58,7 @@ pub record Stops : Type 0 where
   pub refused-not-admitted : goingOn (0x1e ∷ []) ≡ refusedIn ProtocolViolation 0x1e
   pub refused-field : goingOn (0x0a ∷ 4 ∷ 2 ∷ 0x61 ∷ []) ≡ refusedIn FrameEncoding 0x0a
   -- "CONNECTION_CLOSE is accepted, ends the walk, records the number and closes "by peer""; the place is its own, and what stands behind it is not looked at
-  pub closed-by-peer : map goingOn ((0x1c ∷ 3 ∷ 0x1f ∷ 0 ∷ 0x40 ∷ []) ∷ (0x1d ∷ 3 ∷ 1 ∷ 0x61 ∷ 0x1f ∷ []) ∷ []) ≡ replicate 2 (ending Accepted 8 (heard ByPeer) recordedNext)
+  pub closed-by-peer : goingOn (0x1c ∷ 3 ∷ 0x1f ∷ 0 ∷ 0x40 ∷ []) ≡ ending Accepted 8 (heard ByPeer) recordedNext
+  pub closed-by-application : goingOn (0x1d ∷ 3 ∷ 1 ∷ 0x61 ∷ 0x1f ∷ []) .took .conn ≡ heard ByPeer .conn
+  pub application-place : goingOn (0x1d ∷ 3 ∷ 1 ∷ 0x61 ∷ 0x1f ∷ []) .took .place ≡ 8
+  pub application-recorded : goingOn (0x1d ∷ 3 ∷ 1 ∷ 0x61 ∷ 0x1f ∷ []) .took .records .application .top ≡ 8194

@@ -3,7 +3,7 @@
 use Prim.Native.Nat.{ℕ, _+_, _-_, _^_}
 use mathlib.Core.Path.{_≡_}
 use mathlib.Core.List.{List, [], _∷_, _++_, map}
-use lib.ListN.{length, replicate}
+use lib.ListN.{length, replicate, set}
 use Rattle.answers.specs.Answers.{numberOf}
 use Rattle.answers.specs.declared.Answer.the-variants.{Accepted, DoesNotFit, Closed}
 use Rattle.frames.specs.declared.Kind.the-variants.{OneRtt}
@@ -135,6 +135,7 @@ pub record Unfit : Type 0 where
       ≡ 0 ∷ 120 ∷ 120 ∷ 120 ∷ 120 ∷ 120 ∷ 120 ∷ []
   pub unopened-ends : pinged (unopened 1 (unsized 16 1) (fresh 17) (fresh 18) ∷ unopened 1 (fresh 16) (unsized 17 1) (fresh 18) ∷ unopened 1 (fresh 16) (fresh 17) (unsized 18 1) ∷ []) ≡ 120 ∷ 120 ∷ 120 ∷ []
   pub unopened-sizes : pinged (unopened 0 (sized 16 0 0) (fresh 17) (fresh 18) ∷ unopened 0 (fresh 16) (sized 17 0 0) (fresh 18) ∷ unopened 0 (fresh 16) (fresh 17) (sized 18 0 0) ∷ []) ≡ 120 ∷ 120 ∷ 120 ∷ []
+  pub unopened-borders : pinged (map (λ (i : ℕ). hostOf plain (0 ∷ 0 ∷ 0 ∷ 0 ∷ []) 0 (set (tableOf 16 17 18 (fresh 16) (fresh 17) (fresh 18)) i (fresh 15))) (63 ∷ 64 ∷ 127 ∷ 128 ∷ [])) ≡ replicate 4 120
   pub open-ones : pinged (opened 0 (fresh 15) (fresh 16) (fresh 17) ∷ opened 0 (fresh 17) (fresh 18) (fresh 19) ∷ opened 3 (unsized 16 1) (unsized 17 1) (unsized 18 1) ∷ opened 0 (sized 16 0 0) (sized 17 0 0) (sized 18 0 0) ∷ []) ≡ 0 ∷ 0 ∷ 0 ∷ 0 ∷ []
   -- "the total is not the sum of the ends or is above the connection credit"
   pub totals : pinged (map (λ (n : ℕ). opened n (unsized 16 5) (unsized 17 6) (unsized 18 7)) (17 ∷ 18 ∷ 19 ∷ [])) ≡ 120 ∷ 0 ∷ 120 ∷ []
@@ -159,14 +160,14 @@ pub record Unfit : Type 0 where
   -- "before all else", of every call: what fits is accepted, and else it is 120 and "nothing changed"
   pub accepted : answersOf fine ≡ replicate 6 0
   pub refused : map answersOf spoiled ≡ replicate 3 (replicate 6 120)
-  pub same-hosts : map statesOf spoiled ≡ map (replicate 6) spoiled
+  pub same-hosts : map (λ (h : State). map (acted h) (TakeFrame (1 ∷ []) 0 OneRtt ∷ TakePacket nothing 0x40 (0 ∷ 1 ∷ []) ∷ Make (RaiseStream 0 50) ∷ [])) spoiled ≡ map (replicate 3) spoiled
   pub same-records : map (λ h. recordsAfter h nothing 0x40 (0 ∷ 1 ∷ [])) spoiled ≡ replicate 3 nothing
   -- handing out a number asks for no table
   pub handing-out : map (λ h. numberOf (answered h (HandOut Application))) spoiled ≡ replicate 3 0
   -- ".. and only then": next numbers above 2^62 and an odd closing mark do not make it 120
   pub far-numbers : answersOf (wholeHost plain (1 ∷ 2 ∷ 64 ∷ 1 ∷ []) 0 ((2 ^ 62 + 1) ∷ 2 ^ 63 ∷ (2 ^ 64 - 1) ∷ []) Open (tableOf 16 17 18 (fresh 16) (fresh 17) (fresh 18))) ≡ replicate 6 0
   pub no-numbers : map (λ space. numberOf (answered (wholeHost plain (1 ∷ 2 ∷ 64 ∷ 1 ∷ []) 0 ((2 ^ 62 + 1) ∷ 2 ^ 63 ∷ (2 ^ 64 - 1) ∷ []) Open (tableOf 16 17 18 (fresh 16) (fresh 17) (fresh 18))) (HandOut space))) (Initial ∷ Handshake ∷ Application ∷ []) ≡ 103 ∷ 103 ∷ 103 ∷ []
-  pub odd-marks : map (λ mark. answersOf (wholeHost plain (1 ∷ 2 ∷ 64 ∷ 1 ∷ []) 0 (0 ∷ 0 ∷ 0 ∷ []) mark (tableOf 16 17 18 (fresh 16) (fresh 17) (fresh 18)))) (Code Accepted 0 ∷ Code DoesNotFit 0x1f ∷ Code Closed (2 ^ 64 - 1) ∷ []) ≡ replicate 3 (replicate 6 101)
+  pub odd-marks : pinged (map (λ (mark : Mark). wholeHost plain (1 ∷ 2 ∷ 64 ∷ 1 ∷ []) 0 (0 ∷ 0 ∷ 0 ∷ []) mark (tableOf 16 17 18 (fresh 16) (fresh 17) (fresh 18))) (Code Accepted 0 ∷ Code DoesNotFit 0x1f ∷ Code Closed (2 ^ 64 - 1) ∷ [])) ≡ 101 ∷ 101 ∷ 101 ∷ []
   -- "One that marks a number below 0, or whose largest number is not marked or above 2^62-1, is 120": in each of the three spaces, whatever the space of the packet
   pub records-fit : packetsWith 0x40 (inEach (firstMarked 1)) ≡ 0 ∷ 0 ∷ 0 ∷ []
   pub records-stray : packetsWith 0xc0 (inEach (firstMarked 0)) ≡ 120 ∷ 120 ∷ 120 ∷ []
