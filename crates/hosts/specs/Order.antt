@@ -6,7 +6,6 @@ use lib.ListN.{replicate}
 use Rattle.answers.specs.Answers.{numberOf}
 use Rattle.answers.specs.declared.Answer.{Answer}
 use Rattle.answers.specs.declared.Answer.the-variants.{FlowControl, FinalSize, ProtocolViolation, Closed, BelowRecord, InRecord, NoPacket, NoSuchNumber}
-use Rattle.records.specs.declared.Record.{Record}
 use Rattle.streams.specs.declared.Mark.{Mark}
 use Rattle.streams.specs.declared.Mark.the-variants.{Open, Code, ByPeer}
 use Rattle.streams.specs.declared.Space.the-variants.{Application}
@@ -17,7 +16,7 @@ use Rattle.receive.specs.Taking.{tookOf, tookTable}
 use Rattle.accounts.specs.History.{State}
 use Rattle.demands.specs.Hosts.{answered}
 use Rattle.demands.specs.Hosts.Act.{TakePacket, HandOut}
-use Rattle.hosts.specs.Unfit.{sized, unsized, tableOf, wholeHost, plain, firstMarked, answersOf, statesOf}
+use Rattle.hosts.specs.Unfit.{sized, unsized, tableOf, wholeHost, plain, each, held, answersOf, statesOf}
 
 -- ---- what a packet leaves
 
@@ -52,14 +51,7 @@ live = marked Open
 abbrev pub unfit : Mark → State
 unfit mark = wholeHost plain (1 ∷ 2 ∷ 64 ∷ 1 ∷ []) 19 (1 ∷ 1 ∷ 1 ∷ []) mark table
 
--- the records of a host that has got just the number 8,192 in each space, so that 0 is below the record, 1 is not, and one byte t from 0 to 129 stands for 8,192 + t
-abbrev pub each : Record → Records
-each R = record { initial = R; handshake = R; application = R }
-
-abbrev pub held : Records
-held = each (firstMarked 8193)
-
--- .. and just 2^62-1: no number is above it
+-- the records of a host that has got just the number 2^62-1 in each space: no number is above it
 abbrev pub lastHeld : Records
 lastHeld = each (record { words = replicate 127 0 ++ (2 ^ 63 ∷ []); top = 2 ^ 62 })
 
@@ -67,8 +59,8 @@ lastHeld = each (record { words = replicate 127 0 ++ (2 ^ 63 ∷ []); top = 2 ^ 
 
 pub record Order : Type 0 where
   -- "The order of checks: 120; closed 101": of every call. Handing out a number "ignore[s] the closing mark"
-  pub unfit-closed : map (λ (mark : Mark). answersOf (unfit mark)) (ByPeer ∷ Code FlowControl 8 ∷ []) ≡ replicate 2 (replicate 6 120)
-  pub unfit-first : AllGet (unfit ByPeer) held 120 ((0xf0, []) ∷ (0x00, []) ∷ (0x40, []) ∷ (0x40, 0 ∷ 1 ∷ []) ∷ (0x58, 1 ∷ []) ∷ [])
+  pub unfit-closed : answersOf (unfit (Code FlowControl 8)) ≡ replicate 6 120
+  pub unfit-first : AllGet (unfit ByPeer) held 120 ((0xf0, []) ∷ (0x40, 0 ∷ 1 ∷ []) ∷ (0x58, 1 ∷ []) ∷ [])
   pub fit-closed : map (λ (mark : Mark). answersOf (marked mark)) (ByPeer ∷ Code FlowControl 8 ∷ []) ≡ replicate 2 (replicate 6 101)
   pub closed-same : statesOf (marked (Code FlowControl 8)) ≡ replicate 6 (marked (Code FlowControl 8))
   pub closed-hands-out : map (λ (mark : Mark). numberOf (answered (marked mark) (HandOut Application))) (ByPeer ∷ Code FlowControl 8 ∷ []) ≡ 0 ∷ 0 ∷ []

@@ -12,8 +12,8 @@ use Rattle.receive.specs.Taking.{begunOf}
 use Rattle.accounts.specs.History.{State}
 use Rattle.demands.specs.Hosts.{answered, recordsAfter}
 use Rattle.demands.specs.Hosts.Act.{TakePacket}
-use Rattle.hosts.specs.Unfit.{wholeHost, plain, firstMarked}
-use Rattle.hosts.specs.Order.{AllGet, table, live, held}
+use Rattle.hosts.specs.Unfit.{wholeHost, plain, firstMarked, held}
+use Rattle.hosts.specs.Order.{AllGet, table, live}
 
 abbrev pub records : Record → Record → Record → Records
 records initial handshake application = record { initial = initial; handshake = handshake; application = application }

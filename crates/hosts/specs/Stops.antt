@@ -9,8 +9,8 @@ use Rattle.streams.specs.declared.Mark.{Mark}
 use Rattle.streams.specs.declared.Mark.the-variants.{Open, Code, ByPeer}
 use Rattle.spaces.specs.declared.Records.{Records}
 use Rattle.accounts.specs.History.{State}
-use Rattle.hosts.specs.Unfit.{unsized, wholeHost, plain, firstMarked}
-use Rattle.hosts.specs.Order.{Outcome, outcome, ending, table, marked, live, held}
+use Rattle.hosts.specs.Unfit.{unsized, wholeHost, plain, firstMarked, held}
+use Rattle.hosts.specs.Order.{Outcome, outcome, ending, table, marked, live}
 
 -- with 8,193 recorded in the last space
 abbrev pub recordedNext : Records

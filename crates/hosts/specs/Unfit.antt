@@ -8,7 +8,6 @@ use Rattle.answers.specs.Answers.{numberOf}
 use Rattle.answers.specs.declared.Answer.the-variants.{Accepted, DoesNotFit, Closed}
 use Rattle.frames.specs.declared.Kind.the-variants.{OneRtt}
 use Rattle.records.specs.declared.Record.{Record}
-use Rattle.records.specs.Marks.{noneOf}
 use Rattle.streams.specs.declared.Limits.{Limits}
 use Rattle.streams.specs.declared.Mark.{Mark}
 use Rattle.streams.specs.declared.Mark.the-variants.{Open, Code}
@@ -68,14 +67,32 @@ allOpen limits = hostOf limits (64 ∷ 64 ∷ 64 ∷ 64 ∷ []) 0 (tableOf 16 17
 abbrev pub openedBy : List ℕ → State
 openedBy l = hostOf (limitsOf 100 4 63 16 17 18) l 0 (tableOf 16 17 18 (fresh 16) (fresh 17) (fresh 18))
 
--- so many entries, each as opening sets it: with no credit for a stream even an entry that is missing would be
+-- so many entries, each as opening sets it; no stream has credit, so that nothing but their number can be wrong
 abbrev pub long : ℕ → State
 long n = hostOf (limitsOf 100 4 4 0 0 0) (0 ∷ 0 ∷ 0 ∷ 0 ∷ []) 0 (replicate n (fresh 0))
 
--- ---- calls
+-- ---- records
 
-abbrev pub nothing : Records
-nothing = record { initial = noneOf; handshake = noneOf; application = noneOf }
+-- the first slot alone is marked: fits with 0 as the largest number, or 8,192, and not with none, 1, or a number above 2^62-1
+abbrev pub firstMarked : ℕ → Record
+firstMarked top = record { words = 1 ∷ replicate 127 0; top = top }
+
+-- the records of a host that has got just the number 8,192 in each space, so that 0 is below the record, 1 is not, and one byte t from 0 to 129 stands for 8,192 + t
+abbrev pub each : Record → Records
+each R = record { initial = R; handshake = R; application = R }
+
+abbrev pub held : Records
+held = each (firstMarked 8193)
+
+-- .. with another record in one of the three
+abbrev pub inEach : Record → List Records
+inEach R =
+    record { initial = R; handshake = firstMarked 8193; application = firstMarked 8193 }
+    ∷ record { initial = firstMarked 8193; handshake = R; application = firstMarked 8193 }
+    ∷ record { initial = firstMarked 8193; handshake = firstMarked 8193; application = R }
+    ∷ []
+
+-- ---- calls
 
 -- what the call for one frame answers to a PING
 abbrev pub pinged : List State → List ℕ
@@ -83,7 +100,7 @@ pinged = map (λ h. numberOf (answered h (TakeFrame (1 ∷ []) 0 OneRtt)))
 
 -- each call that 120 is for: a PING alone and in a packet, the credit, a stream's credit and a count raised, a stream opened
 abbrev pub everyCall : List Act
-everyCall = TakeFrame (1 ∷ []) 0 OneRtt ∷ TakePacket nothing 0x40 (0 ∷ 1 ∷ []) ∷ Make (RaiseCredit 200) ∷ Make (RaiseStream 0 50) ∷ Make (RaiseCount 0 5) ∷ Make (OpenNext 1) ∷ []
+everyCall = TakeFrame (1 ∷ []) 0 OneRtt ∷ TakePacket held 0x40 (1 ∷ 1 ∷ []) ∷ Make (RaiseCredit 200) ∷ Make (RaiseStream 0 50) ∷ Make (RaiseCount 0 5) ∷ Make (OpenNext 1) ∷ []
 
 abbrev pub answersOf : State → List ℕ
 answersOf h = map (λ (x : Act). numberOf (answered h x)) everyCall
@@ -98,21 +115,7 @@ fine = opened 18 (unsized 16 5) (sized 17 6 6) (sized 18 7 7)
 abbrev pub spoiled : List State
 spoiled = opened 30 (unsized 16 17) (sized 17 6 6) (sized 18 7 7) ∷ opened 19 (unsized 16 5) (sized 17 6 6) (sized 18 7 7) ∷ long 191 ∷ []
 
--- ---- records
-
--- the first slot alone is marked: fits with 0 as the largest number, and not with none, 1, or a number above 2^62-1
-abbrev pub firstMarked : ℕ → Record
-firstMarked top = record { words = 1 ∷ replicate 127 0; top = top }
-
--- a record in one of the three spaces, beside two that hold nothing
-abbrev pub inEach : Record → List Records
-inEach R =
-    record { initial = R; handshake = noneOf; application = noneOf }
-    ∷ record { initial = noneOf; handshake = R; application = noneOf }
-    ∷ record { initial = noneOf; handshake = noneOf; application = R }
-    ∷ []
-
--- the answers to a packet with each of these records: number 1 and a PING; its first byte tells the kind
+-- the answers to a packet with each of these records: a number and a PING; its first byte tells the kind
 abbrev pub packetsWith : ℕ → List Records → List ℕ
 packetsWith first l = map (λ (rs : Records). numberOf (answered fine (TakePacket rs first (1 ∷ 1 ∷ [])))) l
 
@@ -160,8 +163,8 @@ pub record Unfit : Type 0 where
   -- "before all else", of every call: what fits is accepted, and else it is 120 and "nothing changed"
   pub accepted : answersOf fine ≡ replicate 6 0
   pub refused : map answersOf spoiled ≡ replicate 3 (replicate 6 120)
-  pub same-hosts : map (λ (h : State). map (acted h) (TakeFrame (1 ∷ []) 0 OneRtt ∷ TakePacket nothing 0x40 (0 ∷ 1 ∷ []) ∷ Make (RaiseStream 0 50) ∷ [])) spoiled ≡ map (replicate 3) spoiled
-  pub same-records : map (λ h. recordsAfter h nothing 0x40 (0 ∷ 1 ∷ [])) spoiled ≡ replicate 3 nothing
+  pub same-hosts : map (λ (h : State). map (acted h) (TakeFrame (1 ∷ []) 0 OneRtt ∷ TakePacket held 0x40 (1 ∷ 1 ∷ []) ∷ Make (RaiseStream 0 50) ∷ [])) spoiled ≡ map (replicate 3) spoiled
+  pub same-records : map (λ h. recordsAfter h held 0x40 (1 ∷ 1 ∷ [])) spoiled ≡ replicate 3 held
   -- handing out a number asks for no table
   pub handing-out : map (λ h. numberOf (answered h (HandOut Application))) spoiled ≡ replicate 3 0
   -- ".. and only then": next numbers above 2^62 and an odd closing mark do not make it 120
