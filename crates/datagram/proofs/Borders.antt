@@ -13,6 +13,7 @@ borders = record {
   torn = refl;
   torn-zero = refl;
   torn-one = refl;
+  not-versions = refl;
   versions = refl;
   long-ids = refl;
   types = refl;

@@ -43,9 +43,10 @@ pub record Borders : Type 0 where
       ≡ none ∷ none ∷ none ∷ none ∷ none ∷ none ∷ Packet (headerOf OtherVersion 2 (partOf 6 3) (partOf 10 2) (partOf 12 0) 12 12) ∷ []
   pub torn-zero : map nextOf ((0x80 ∷ (version 0 ++ (3 ∷ 1 ∷ 1 ∷ []))) ∷ (0x80 ∷ (version 0 ++ (0 ∷ 9 ∷ 1 ∷ 1 ∷ 1 ∷ 1 ∷ []))) ∷ []) ≡ none ∷ none ∷ []
   pub torn-one : map nextOf ((0xc0 ∷ (version 1 ++ (3 ∷ 1 ∷ 1 ∷ []))) ∷ (0xf0 ∷ (version 1 ++ (0 ∷ 20 ∷ zeros 19))) ∷ []) ≡ none ∷ none ∷ []
-  -- "Version 0: Version Negotiation; [..] the remainder is one or more whole 4-byte versions, else 110": 0, 3, 4, 5 and 8 bytes
-  pub versions : map (λ n. nextOf (negotiation n)) (0 ∷ 3 ∷ 4 ∷ 5 ∷ 8 ∷ [])
-      ≡ none ∷ none ∷ Packet (headerOf VersionNegotiation 0 (partOf 6 3) (partOf 10 2) (partOf 12 0) 12 16) ∷ none ∷ Packet (headerOf VersionNegotiation 0 (partOf 6 3) (partOf 10 2) (partOf 12 0) 12 20) ∷ []
+  -- "Version 0: Version Negotiation; [..] the remainder is one or more whole 4-byte versions, else 110": none, 4 and 8 bytes, 12, and all that are no whole ones between
+  pub not-versions : map (λ n. nextOf (negotiation n)) (0 ∷ 1 ∷ 2 ∷ 3 ∷ 5 ∷ 6 ∷ 7 ∷ 9 ∷ 10 ∷ 11 ∷ []) ≡ replicate 10 none
+  pub versions : map (λ n. nextOf (negotiation n)) (4 ∷ 8 ∷ 12 ∷ [])
+      ≡ map (λ end. Packet (headerOf VersionNegotiation 0 (partOf 6 3) (partOf 10 2) (partOf 12 0) 12 end)) (16 ∷ 20 ∷ 24 ∷ [])
   -- "ID lengths 0 to 255": 21 bytes; a length byte 0x40, which is 64 and no number on the wire; 255; and no bit but the top one is asked of the first byte
   pub long-ids : map nextOf (long 0x80 (version 0) 0 0 (zeros 4) ∷ long 0xff (version 0) 21 21 (zeros 4) ∷ long 0x80 (version 0) 0x40 0x41 (zeros 4) ∷ long 0xc0 (version 0) 255 255 (zeros 4) ∷ [])
       ≡ Packet (headerOf VersionNegotiation 0 (partOf 6 0) (partOf 7 0) (partOf 7 0) 7 11) ∷ Packet (headerOf VersionNegotiation 0 (partOf 6 21) (partOf 28 21) (partOf 49 0) 49 53)
