@@ -2,13 +2,15 @@
 -- Assumes nothing.
 use mathlib.Core.Path.{refl}
 use Rattle.ring.specs.Bits.{bit, bitAt, unmarked}
-use Rattle.records.specs.Marks.{recorded, noneOf, soundOf}
+use Rattle.ring.specs.Runs.{lowest, nextRun}
+use Rattle.records.specs.Found.{foundOf}
+use Rattle.records.specs.Marks.{recorded, noneOf, soundOf, checkOf}
 use Rattle.records.specs.Ring.{wordOf, listOf, slotOf, ringOf, withMark, takenOf}
 use Rattle.windows.specs.History.{isAmong, aboveAll, answerAfter, takenNumbers}
 use Rattle.windows.specs.Borders.{Borders}
 
 pub borders : Borders
-unfolding bit bitAt unmarked recorded noneOf soundOf wordOf listOf slotOf ringOf withMark takenOf isAmong aboveAll answerAfter takenNumbers
+unfolding bit bitAt unmarked recorded noneOf soundOf checkOf lowest nextRun foundOf wordOf listOf slotOf ringOf withMark takenOf isAmong aboveAll answerAfter takenNumbers
 borders = record {
   new = refl;
   stray = refl;
@@ -24,4 +26,10 @@ borders = record {
   from-zero = refl;
   passed = refl;
   refused-left = refl;
+  last-slot = refl;
+  checked = refl;
+  runs = refl;
+  no-runs = refl;
+  over-the-end = refl;
+  at-the-edge = refl;
 }
