@@ -12,4 +12,4 @@ use Rattle.bench.specs.Packets.{Packets}
 
 pub packets : Packets
 unfolding bigEndian nearestOf recoveredOf bit bitAt recorded noneOf testOf unmarked soundOf wordOf listOf slotOf ringOf withMark takenOf headerOf sizeIn reservedOf refusedOf closesOf testedOf inSpaceOf
-packets = record { kinds = refl; sizes = refl; reserved = refl; order = refl }
+packets = record { kinds = refl; kinds-below = refl; kinds-said = refl; sizes = refl; reserved = refl; order = refl }

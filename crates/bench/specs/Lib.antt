@@ -2,3 +2,4 @@ pub mod Bench
 pub mod Neighbours
 pub mod Packets
 pub mod Writers
+pub mod Acknowledgements

@@ -14,6 +14,7 @@ use Rattle.opening.specs.Opening.{openedConn}
 use Rattle.streams.specs.Small.{small}
 use Rattle.headers.specs.declared.Header.the-variants.{Carries, NoPacket}
 use Rattle.headers.specs.First.{headerOf, sizeIn, reservedOf}
+use Rattle.headers.specs.Said.{headerSays}
 use Rattle.packets.specs.Begin.{inSpaceOf}
 
 -- the record that holds 5 alone
@@ -28,6 +29,9 @@ pub record Packets : Type 0 where
   -- "the plain first byte (it tells the kind)": long with bits 0x30, short; Retry and bit 0x40 clear are none
   pub kinds : map headerOf (0xc0 ∷ 0xd0 ∷ 0xe0 ∷ 0xf0 ∷ 0x80 ∷ 0x40 ∷ 0x7f ∷ 0x00 ∷ [])
       ≡ Carries Initial ∷ Carries ZeroRtt ∷ Carries Handshake ∷ NoPacket ∷ NoPacket ∷ Carries OneRtt ∷ Carries OneRtt ∷ NoPacket ∷ []
+  -- whatever the bits below them; and the answer's number: "Retry, bit 0x40 clear [..] 110"
+  pub kinds-below : map headerOf (0xcf ∷ 0xdf ∷ 0xef ∷ 0xff ∷ 0xbf ∷ 0x3f ∷ []) ≡ Carries Initial ∷ Carries ZeroRtt ∷ Carries Handshake ∷ NoPacket ∷ NoPacket ∷ NoPacket ∷ []
+  pub kinds-said : map (λ (first : ℕ). headerSays (headerOf first) .number) (0x40 ∷ 0xc0 ∷ 0xf0 ∷ 0x80 ∷ 0x00 ∷ []) ≡ 0 ∷ 0 ∷ 110 ∷ 110 ∷ 110 ∷ []
   -- "The low two bits of the plain first byte, plus one, give the length of the number"
   pub sizes : map sizeIn (0x40 ∷ 0x41 ∷ 0x42 ∷ 0x43 ∷ 0xfc ∷ []) ≡ One ∷ Two ∷ Three ∷ Four ∷ One ∷ []
   -- "reserved bits not zero (0x0c long, 0x18 short)"; key phase and spin bit of a short header are free
