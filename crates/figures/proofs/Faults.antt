@@ -35,4 +35,5 @@ faults = record {
   path-cut = refl;
   id-cut = refl;
   ranges-cut = refl;
+  said = refl;
 }

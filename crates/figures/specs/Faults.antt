@@ -5,6 +5,8 @@ use mathlib.Core.Bool.{true, false}
 use mathlib.Core.List.{List, [], _∷_, _++_, map}
 use lib.ListN.{replicate}
 use Rattle.answers.specs.declared.Answer.the-variants.{FrameEncoding}
+use Rattle.fields.specs.Said.{fieldsSay}
+use Rattle.fields.specs.declared.Fields.the-variants as Fields'
 use Rattle.frames.specs.declared.Frame.the-variants.{Ack, AckEcn, Crypto, NewToken, Stream, MaxStreams, StreamsBlocked, NewConnectionId}
 use Rattle.frames.specs.declared.Reading.{Reading}
 use Rattle.frames.specs.declared.Reading.the-variants.{Got, Refused}
@@ -67,3 +69,5 @@ pub record Faults : Type 0 where
   -- ranges: no range where one is counted, a gap with no length, the second of two missing; ECN counts: none, and two of three
   pub ranges-cut : map read ((0x02 ∷ 9 ∷ 0 ∷ 1 ∷ 0 ∷ []) ∷ (0x02 ∷ 9 ∷ 0 ∷ 1 ∷ 0 ∷ 0 ∷ []) ∷ (0x02 ∷ 9 ∷ 0 ∷ 2 ∷ 0 ∷ 0 ∷ 0 ∷ []) ∷ (0x03 ∷ 9 ∷ 0 ∷ 0 ∷ 0 ∷ []) ∷ (0x03 ∷ 9 ∷ 0 ∷ 0 ∷ 0 ∷ 1 ∷ 1 ∷ []) ∷ (0x03 ∷ 9 ∷ 0 ∷ 1 ∷ 0 ∷ 0 ∷ 1 ∷ 1 ∷ []) ∷ [])
       ≡ wrong 0x02 ∷ wrong 0x02 ∷ wrong 0x02 ∷ wrong 0x03 ∷ wrong 0x03 ∷ wrong 0x03 ∷ []
+  -- .. and 7 is what is said of fields that cannot be read or have a fault
+  pub said : fieldsSay Fields'.Wrong .number ≡ 7

@@ -33,6 +33,10 @@ pub record Figures : Type 0 where
   pub ack : read acknowledged ≡ Got (Ack 300 5 2 4 6) 0x02 11
   -- .. its runs are 300 to 296, 293 to 290 (a gap of 1) and 288 to 223 (a gap of 0): 19.3.1, "largest = previous_smallest - gap - 2"
   pub runs : firstOf 300 4 2 6 ∷ map (stepOf acknowledged) (walk 296 6 2 ∷ walk 290 8 1 ∷ walk 223 11 0 ∷ []) ≡ Next 300 296 (walk 296 6 2) ∷ Next 293 290 (walk 290 8 1) ∷ Next 288 223 (walk 223 11 0) ∷ End ∷ []
+  -- .. the first run down to number 0, and no run below it; a range down to 0, one below it, one of which a number is missing or cut short; none is left, though what follows would read as one
+  pub first-run : map (λ (len : ℕ). firstOf 5 len 3 9) (0 ∷ 5 ∷ 6 ∷ []) ≡ Next 5 5 (walk 5 9 3) ∷ Next 5 0 (walk 0 9 3) ∷ End ∷ []
+  pub next-run : map (λ (s : List ℕ). stepOf s (walk 5 1 2)) ((9 ∷ 1 ∷ 2 ∷ []) ∷ (9 ∷ 1 ∷ 3 ∷ []) ∷ (9 ∷ 4 ∷ 0 ∷ []) ∷ (9 ∷ 1 ∷ []) ∷ (9 ∷ []) ∷ (9 ∷ 1 ∷ 0x40 ∷ []) ∷ []) ≡ Next 2 0 (walk 0 3 1) ∷ End ∷ End ∷ End ∷ End ∷ End ∷ []
+  pub no-run : stepOf (9 ∷ 1 ∷ 2 ∷ []) (walk 5 1 0) ≡ End
   pub ack-ecn : read (0x03 ∷ 0x41 ∷ 0x2c ∷ 5 ∷ 1 ∷ 4 ∷ 3 ∷ 6 ∷ 7 ∷ 8 ∷ 0x40 ∷ 0x41 ∷ 0x99 ∷ []) ≡ Got (AckEcn 300 5 1 4 6 7 8 65) 0x03 12
   -- 19.4: Stream ID 4, Application Protocol Error Code 300, Final Size 9
   pub reset-stream : read (0x04 ∷ 4 ∷ 0x41 ∷ 0x2c ∷ 9 ∷ 0x99 ∷ []) ≡ Got (ResetStream 4 300 9) 0x04 5
