@@ -3,3 +3,5 @@ pub mod Found
 pub mod Back
 pub mod Readers
 pub mod Exact
+pub mod Measured
+pub mod Borders
