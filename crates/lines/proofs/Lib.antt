@@ -4,4 +4,5 @@ pub mod Signs
 pub mod Gathering
 pub mod Joined
 pub mod Pieces
+pub mod Borders
 pub mod Unique

@@ -1,0 +1,35 @@
+-- What a line, a word and its characters are at their borders, from both sides: "A line is words with single blanks between them", numbers are decimal, 0 to 2^64-1, bytes are pairs of hexadecimal digits in either case.
+use Prim.Native.Nat.{ℕ, _-_, _^_}
+use mathlib.Core.Path.{_≡_}
+use mathlib.Core.Bool.{true, false}
+use mathlib.Core.List.{List, [], _∷_, _++_, map}
+use lib.ListN.{replicate}
+use Rattle.text.specs.Decimal.{isDigit, parsedOf}
+use Rattle.text.specs.declared.decimal.Parsed.the-variants as Parsed'
+use Rattle.hex.specs.Hex.{halfOf, pairsOf}
+use Rattle.hex.specs.declared.Pairs.the-variants as Pairs'
+use Rattle.lines.specs.declared.words.Signed.the-variants.{Plus, Minus, Wrong}
+use Rattle.lines.specs.Words.{countOf, wordOf, signedOf, bytesOf}
+
+-- 2^64-1 in digits, less its last one, which is "5"
+abbrev pub most : List ℕ
+most = 49 ∷ 56 ∷ 52 ∷ 52 ∷ 54 ∷ 55 ∷ 52 ∷ 52 ∷ 48 ∷ 55 ∷ 51 ∷ 55 ∷ 48 ∷ 57 ∷ 53 ∷ 53 ∷ 49 ∷ 54 ∷ 49 ∷ []
+
+pub record Borders : Type 0 where
+  -- "", " ", "a", "a b", " a", "a ", "a  b", and a tab, which is no blank
+  pub counts : map countOf ([] ∷ (32 ∷ []) ∷ (97 ∷ []) ∷ (97 ∷ 32 ∷ 98 ∷ []) ∷ (32 ∷ 97 ∷ []) ∷ (97 ∷ 32 ∷ []) ∷ (97 ∷ 32 ∷ 32 ∷ 98 ∷ []) ∷ (97 ∷ 9 ∷ 98 ∷ []) ∷ []) ≡ 0 ∷ 0 ∷ 1 ∷ 2 ∷ 0 ∷ 0 ∷ 0 ∷ 1 ∷ []
+  -- the words of "a bc" count from 0, and one that is not there is empty
+  pub words : map (wordOf (97 ∷ 32 ∷ 98 ∷ 99 ∷ [])) (0 ∷ 1 ∷ 2 ∷ []) ≡ (97 ∷ []) ∷ (98 ∷ 99 ∷ []) ∷ [] ∷ []
+  -- "/", "0", "9" and ":"
+  pub digits : map isDigit (47 ∷ 48 ∷ 57 ∷ 58 ∷ []) ≡ false ∷ true ∷ true ∷ false ∷ []
+  -- 2^64-1, one more, ten times as much; zeros before a number, more of them than a number has digits
+  pub numbers : map parsedOf ((most ++ (53 ∷ [])) ∷ (most ++ (54 ∷ [])) ∷ (most ++ (53 ∷ 48 ∷ [])) ∷ (replicate 21 48 ++ (55 ∷ [])) ∷ (48 ∷ []) ∷ []) ≡ Parsed'.Is (2 ^ 64 - 1) ∷ Parsed'.Wrong ∷ Parsed'.Wrong ∷ Parsed'.Is 7 ∷ Parsed'.Is 0 ∷ []
+  -- "5", "-5", "-0", "-", "--5", "+5", "5-" and ""
+  pub signs : map signedOf ((53 ∷ []) ∷ (45 ∷ 53 ∷ []) ∷ (45 ∷ 48 ∷ []) ∷ (45 ∷ []) ∷ (45 ∷ 45 ∷ 53 ∷ []) ∷ (43 ∷ 53 ∷ []) ∷ (53 ∷ 45 ∷ []) ∷ [] ∷ []) ≡ Plus 5 ∷ Minus 5 ∷ Minus 0 ∷ Wrong ∷ Wrong ∷ Wrong ∷ Wrong ∷ Wrong ∷ []
+  -- "/", "0", "9", ":"; "@", "A", "F", "G"; "`", "a", "f", "g": 16 is none
+  pub halves : map halfOf (47 ∷ 48 ∷ 57 ∷ 58 ∷ 64 ∷ 65 ∷ 70 ∷ 71 ∷ 96 ∷ 97 ∷ 102 ∷ 103 ∷ []) ≡ 16 ∷ 0 ∷ 9 ∷ 16 ∷ 16 ∷ 10 ∷ 15 ∷ 16 ∷ 16 ∷ 10 ∷ 15 ∷ 16 ∷ []
+  -- "1f2e" into three bytes, two and one; "1f2" and "1g2e", also where they would have no room; none
+  pub pairs : map (λ (n : ℕ). pairsOf (49 ∷ 102 ∷ 50 ∷ 101 ∷ []) (replicate n 9)) (3 ∷ 2 ∷ 1 ∷ []) ≡ (Pairs'.Are 2, 0x1f ∷ 0x2e ∷ 9 ∷ []) ∷ (Pairs'.Are 2, 0x1f ∷ 0x2e ∷ []) ∷ (Pairs'.NoRoom, 9 ∷ []) ∷ []
+  pub no-pairs : map (λ (s : List ℕ). pairsOf s []) ((49 ∷ 102 ∷ 50 ∷ []) ∷ (49 ∷ 103 ∷ 50 ∷ 101 ∷ []) ∷ [] ∷ []) ≡ (Pairs'.Wrong, []) ∷ (Pairs'.Wrong, []) ∷ (Pairs'.Are 0, []) ∷ []
+  -- "-" is no bytes; "--" is none of the kind
+  pub dash : map (λ (s : List ℕ). bytesOf s (9 ∷ [])) ((45 ∷ []) ∷ (45 ∷ 45 ∷ []) ∷ []) ≡ (Pairs'.Are 0, 9 ∷ []) ∷ (Pairs'.Wrong, 9 ∷ []) ∷ []
