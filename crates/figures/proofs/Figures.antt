@@ -53,4 +53,7 @@ figures = record {
   handshake-done = refl;
   longer = refl;
   inside = refl;
+  apart = refl;
+  bodies-outside = refl;
+  no-layout = refl;
 }

@@ -4,6 +4,13 @@ use mathlib.Core.Path.{_≡_}
 use mathlib.Core.Bool.{true, false}
 use mathlib.Core.List.{List, [], _∷_, _++_, map}
 use lib.ListN.{replicate}
+use Rattle.layouts.specs.Layout.{layout, layoutOf}
+use Rattle.layouts.specs.Body.{bodyAt}
+use Rattle.layouts.specs.declared.Tail.the-variants as Tail'
+use Rattle.layouts.specs.declared.Body.the-variants as Body'
+use Rattle.fields.specs.Parts.{partsAt}
+use Rattle.fields.specs.declared.Parts.{Parts}
+use Rattle.fields.specs.declared.Fields.the-variants as Fields'
 use Rattle.ranges.specs.declared.Walk.{Walk}
 use Rattle.ranges.specs.declared.Step.the-variants.{Next, End}
 use Rattle.ranges.specs.Walk.{firstOf, stepOf}
@@ -23,6 +30,10 @@ acknowledged = 0x02 ∷ 0x41 ∷ 0x2c ∷ 5 ∷ 2 ∷ 4 ∷ 1 ∷ 3 ∷ 0 ∷ 0x
 -- a walk down its ranges: the smallest number so far, the place of the next range, and how many are left
 abbrev pub walk : ℕ → ℕ → ℕ → Walk
 walk low at left = record { low = low; at = at; left = left }
+
+-- the parts of a frame: its type, four numbers, the place and length of its bytes, the place of its token, three numbers after them
+abbrev pub parts : ℕ → ℕ → ℕ → ℕ → ℕ → ℕ → ℕ → ℕ → ℕ → ℕ → ℕ → Parts
+parts ty a b c d at len token x y z = record { ty = ty; a = a; b = b; c = c; d = d; at = at; len = len; token = token; x = x; y = y; z = z }
 
 -- 41 2c reads 300, 40 41 reads 65; 99 is a byte after the frame
 pub record Figures : Type 0 where
@@ -84,3 +95,11 @@ pub record Figures : Type 0 where
   -- "Longer forms are read everywhere except in a frame's type": a number in two, four and eight bytes; and a frame that does not stand at the beginning
   pub longer : read (0x04 ∷ 0x40 ∷ 4 ∷ 0x80 ∷ 0 ∷ 0 ∷ 5 ∷ 0xc0 ∷ 0 ∷ 0 ∷ 0 ∷ 0 ∷ 0 ∷ 0 ∷ 6 ∷ []) ≡ Got (ResetStream 4 5 6) 0x04 15
   pub inside : anyFrameAt (0x99 ∷ 0x98 ∷ 0x06 ∷ 0x41 ∷ 0x2c ∷ 3 ∷ 1 ∷ 2 ∷ 3 ∷ 0x99 ∷ []) 2 ≡ Got (Crypto 300 6 3) 0x06 9
+  -- the parts that a frame of each form has after its type: those that it does not have are 0
+  pub apart : partsAt (5 ∷ 0x99 ∷ []) 0 0x10 ∷ partsAt (9 ∷ 0 ∷ 1 ∷ 2 ∷ 3 ∷ 2 ∷ 7 ∷ 8 ∷ 6 ∷ 0x99 ∷ []) 0 0x03 ∷ partsAt (4 ∷ 2 ∷ 1 ∷ 2 ∷ 0x99 ∷ []) 0 0x0a ∷ partsAt (4 ∷ 6 ∷ 1 ∷ 2 ∷ []) 0 0x0c ∷ partsAt (replicate 9 1) 0 0x1a ∷ partsAt (7 ∷ 5 ∷ 1 ∷ replicate 18 2) 0 0x18 ∷ []
+      ≡ Fields'.Are (parts 0x10 5 0 0 0 0 0 0 0 0 0) 1 ∷ Fields'.Are (parts 0x03 9 0 1 2 4 0 0 7 8 6) 9 ∷ Fields'.Are (parts 0x0a 4 0 0 0 2 2 0 0 0 0) 4 ∷ Fields'.Are (parts 0x0c 4 6 0 0 2 2 0 0 0 0) 4
+      ∷ Fields'.Are (parts 0x1a 0 0 0 0 0 8 0 0 0 0) 8 ∷ Fields'.Are (parts 0x18 7 5 0 0 3 1 4 0 0 0) 20 ∷ []
+  -- a place outside of the bytes: nothing stands there
+  pub bodies-outside : map (λ tail. bodyAt (1 ∷ []) 2 tail 0 1 0) (Tail'.Counted ∷ Tail'.Remainder ∷ Tail'.Eight ∷ Tail'.Identity ∷ Tail'.Ranges ∷ []) ≡ replicate 5 Body'.Wrong
+  -- a type that is not one of section 19 has no fields
+  pub no-layout : map layoutOf (0x1f ∷ 0x20 ∷ []) ≡ layout 0 Tail'.Nothing 0 ∷ layout 0 Tail'.Nothing 0 ∷ []

@@ -2,7 +2,7 @@
 -- Assumes nothing.
 use mathlib.Core.Path.{refl}
 use Rattle.wire.specs.Number.{bigEndian, fieldAt, valuesIn, numberAt, spelled, formOf, sizeOf, bytesOf}
-use Rattle.wire.specs.Writing.{writes}
+use Rattle.wire.specs.Writing.{writes, numberDraft}
 use Rattle.row.specs.Row.{inRange, bytesAll}
 use Rattle.ranges.specs.Listed.{listed, fits}
 use Rattle.layouts.specs.Layout.{layouts, layoutOf}
@@ -16,7 +16,7 @@ use Rattle.bodies.specs.Bodies.{identityDraft, placeAfter}
 use Rattle.roundtrip.specs.Borders.{Borders}
 
 pub borders : Borders
-unfolding bigEndian fieldAt valuesIn numberAt spelled formOf sizeOf bytesOf writes inRange bytesAll listed fits layouts layoutOf aboveOf tooMany misissuedOf faultOf streamType wayType insideOf takes fourBytes spelledFrame frameDraft measuredOf identityDraft placeAfter
+unfolding bigEndian fieldAt valuesIn numberAt spelled formOf sizeOf bytesOf writes numberDraft inRange bytesAll listed fits layouts layoutOf aboveOf tooMany misissuedOf faultOf streamType wayType insideOf takes fourBytes spelledFrame frameDraft measuredOf identityDraft placeAfter
 borders = record {
   stream = refl;
   bytes = refl;
@@ -26,6 +26,7 @@ borders = record {
   room = refl;
   before-room = refl;
   values = refl;
+  highest = refl;
   refused = refl;
   refused-ids = refl;
   refused-runs = refl;

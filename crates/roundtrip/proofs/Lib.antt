@@ -4,4 +4,5 @@ pub mod Back
 pub mod Readers
 pub mod Exact
 pub mod Measured
+pub mod Pieces
 pub mod Borders

@@ -5,7 +5,7 @@ use mathlib.Core.Bool.{true, false}
 use mathlib.Core.List.{List, [], _∷_, _++_, map}
 use lib.ListN.{replicate}
 use Rattle.answers.specs.declared.Answer.the-variants as Answer'
-use Rattle.wire.specs.Writing.{writes, Bytes, Never}
+use Rattle.wire.specs.Writing.{writes, Bytes, Never, numberDraft}
 use Rattle.wire.specs.declared.Wrote.{Wrote}
 use Rattle.wire.specs.declared.Wrote.the-variants.{To, Refused}
 use Rattle.frames.specs.declared.Frame.{Frame}
@@ -48,8 +48,10 @@ pub record Borders : Type 0 where
   -- "Writers check [..] 109, 108": 109 also where there is no room, "output untouched"
   pub before-room : map (written (NewToken 2 0)) (0 ∷ 2 ∷ []) ≡ (Refused Answer'.Unwritable, []) ∷ (Refused Answer'.Unwritable, 0x99 ∷ 0x99 ∷ []) ∷ []
   -- "a value above 2^62-1": in each place of a frame, from both sides
-  pub values : map answered (MaxData (2 ^ 62 - 1) ∷ MaxData (2 ^ 62) ∷ ResetStream 4 (2 ^ 62 - 1) 0 ∷ ResetStream 4 (2 ^ 62) 0 ∷ ResetStream 4 0 (2 ^ 62) ∷ AckEcn 5 0 0 0 2 0 0 (2 ^ 62 - 1) ∷ AckEcn 5 0 0 0 2 0 0 (2 ^ 62) ∷ [])
-      ≡ To 9 ∷ Refused Answer'.Unwritable ∷ To 11 ∷ Refused Answer'.Unwritable ∷ Refused Answer'.Unwritable ∷ To 15 ∷ Refused Answer'.Unwritable ∷ []
+  pub values : map answered (MaxData (2 ^ 62 - 1) ∷ MaxData (2 ^ 62) ∷ ResetStream 4 (2 ^ 62 - 1) 0 ∷ ResetStream 4 (2 ^ 62) 0 ∷ ResetStream 4 0 (2 ^ 62) ∷ AckEcn 5 0 0 0 2 0 0 (2 ^ 62 - 1) ∷ AckEcn 5 0 0 0 2 0 0 (2 ^ 62) ∷ AckEcn 5 0 0 0 2 0 (2 ^ 62) 0 ∷ AckEcn 5 0 0 0 2 (2 ^ 62) 0 0 ∷ Ack 5 (2 ^ 62) 0 0 2 ∷ Ack (2 ^ 62) 0 0 0 2 ∷ [])
+      ≡ To 9 ∷ Refused Answer'.Unwritable ∷ To 11 ∷ Refused Answer'.Unwritable ∷ Refused Answer'.Unwritable ∷ To 15 ∷ Refused Answer'.Unwritable ∷ Refused Answer'.Unwritable ∷ Refused Answer'.Unwritable ∷ Refused Answer'.Unwritable ∷ Refused Answer'.Unwritable ∷ []
+  -- .. and the same of a number alone
+  pub highest : map (λ (v : ℕ). writes (numberDraft v) (replicate 8 0x99) 0) ((2 ^ 62 - 1) ∷ 2 ^ 62 ∷ []) ≡ (To 8, replicate 8 0xff) ∷ (Refused Answer'.Unwritable, replicate 8 0x99) ∷ []
   -- "or a frame that the reader would refuse with 7", from both sides
   pub refused : map answered (NewToken 2 1 ∷ NewToken 2 0 ∷ MaxStreams true (2 ^ 60) ∷ MaxStreams true (2 ^ 60 + 1) ∷ StreamsBlocked false (2 ^ 60) ∷ StreamsBlocked false (2 ^ 60 + 1) ∷ Crypto (2 ^ 62 - 1) 2 0 ∷ Crypto (2 ^ 62 - 1) 2 1 ∷ Stream 4 (2 ^ 62 - 2) false 2 1 ∷ Stream 4 (2 ^ 62 - 2) false 2 2 ∷ [])
       ≡ To 3 ∷ Refused Answer'.Unwritable ∷ To 9 ∷ Refused Answer'.Unwritable ∷ To 9 ∷ Refused Answer'.Unwritable ∷ To 10 ∷ Refused Answer'.Unwritable ∷ To 12 ∷ Refused Answer'.Unwritable ∷ []
