@@ -53,4 +53,6 @@ example = record {
   page-waits = refl;
   page-next = refl;
   too-long = refl;
+  goes-on = refl;
+  last = refl;
 }

@@ -4,7 +4,14 @@ use mathlib.Core.Path.{_≡_}
 use mathlib.Core.Bool.{true, false}
 use mathlib.Core.List.{List, [], _∷_, _++_, map}
 use lib.ListN.{length, take, replicate}
-use Rattle.report.specs.Listing.{tooLong, lastOf, endingOf}
+use Rattle.answers.specs.declared.Answer.the-variants.{Accepted, ProtocolViolation}
+use Rattle.frames.specs.declared.Frame.the-variants.{Ping}
+use Rattle.streams.specs.declared.Mark.{Mark}
+use Rattle.streams.specs.declared.Mark.the-variants.{Open, Code, ByPeer}
+use Rattle.streams.specs.Conn.{markedAs}
+use Rattle.steps.specs.declared.Shown.{Shown}
+use Rattle.steps.specs.declared.Shown.the-variants.{Nothing, Typed, Whole}
+use Rattle.report.specs.Listing.{tooLong, afterOf, lastOf, endingOf}
 use Rattle.pages.specs.Pages.{smallOf, pageOf}
 use Rattle.pages.specs.declared.Page.{Page}
 
@@ -19,6 +26,10 @@ paged n s = pageOf first s (replicate n 0)
 -- the rows of a payload and the last line after them, on a page of 100 bytes
 abbrev pub written : List ℕ → List ℕ
 written s = let r = paged 100 s in take (r .0 .used) (r .1) ++ endingOf (lastOf (length s) (r .0 .conn .mark))
+
+-- where the listing goes on in a payload of 9 bytes after a frame that was shown so, on a connection with this mark
+abbrev pub goesOn : Mark → Shown → ℕ
+goesOn mark shown = afterOf (record { answer = Accepted; shown = shown; conn = markedAs (first .conn) mark }) 9
 
 pub record Example : Type 0 where
   -- the example of document 01: PING, STREAM "hello" on stream 0, and a RESET_STREAM of stream 0 at 20, which breaks its credit: "0 1 0 0", "1 10 0 5", "9 4 3 5", "closed 3"
@@ -61,3 +72,7 @@ pub record Example : Type 0 where
   pub page-next : pageOf (paged 15 (1 ∷ 1 ∷ []) .0) (1 ∷ 1 ∷ []) (replicate 9 0) .1 ≡ 49 ∷ 32 ∷ 49 ∷ 32 ∷ 48 ∷ 32 ∷ 48 ∷ 10 ∷ 0 ∷ []
   -- "at most 65,527 bytes, else the sole line "too long""
   pub too-long : map tooLong (0 ∷ 65527 ∷ 65528 ∷ []) ≡ false ∷ false ∷ true ∷ []
+  -- the place after a frame that was shown whole, and else the end; and the end of a connection that is closed
+  pub goes-on : map (goesOn Open) (Nothing ∷ Typed 1 ∷ Whole Ping 1 4 ∷ []) ++ map (λ mark. goesOn mark (Whole Ping 1 4)) (ByPeer ∷ Code ProtocolViolation 1 ∷ []) ≡ 9 ∷ 9 ∷ 4 ∷ 9 ∷ 9 ∷ []
+  -- a payload without frames: code 10, "type 0 if none was read"; any other leaves the mark
+  pub last : map (lastOf 0) (Open ∷ []) ++ map (lastOf 1) (Open ∷ ByPeer ∷ Code ProtocolViolation 7 ∷ []) ≡ Code ProtocolViolation 0 ∷ Open ∷ ByPeer ∷ Code ProtocolViolation 7 ∷ []
