@@ -36,6 +36,9 @@ use Rattle.bench.specs.Bench.{taken, Bench}
 pub bench : Bench
 unfolding numberAt fieldAt valuesIn bigEndian shortest sizeOf formOf layouts layoutOf known admitted numbersAt optionalAt sizedAt countedAt rangedAt faultOf aboveOf frameOf endedAt partsAt fieldsAt headAt frameAt nearestOf recoveredOf bit bitAt recorded noneOf testOf unmarked soundOf wordOf listOf slotOf ringOf withMark takenOf idOf listed placeOf finalOf reached countOf limitsFit openingOf rule1 rule2 rule3 rule4 rule5 endsOf endOf verdictOf connHeard entryHeard settledOf judgedOf isFresh entryFitsAs openFit connFits sumTo allTo fits gateOf openingWhen entriesOf requestOf requestAt decidedOf filledTo openedTable decidedAt tookFrameOf frameTable hosted taken
 bench = record {
+  small-is = refl;
+  small-two = refl;
+  small-four = refl;
   c1 = refl;
   c2 = refl;
   c3 = refl;

@@ -45,6 +45,10 @@ abbrev pub only8192 : Record
 only8192 = takenOf noneOf 8192 .«record»
 
 pub record Bench : Type 0 where
+  -- "The small connection: counts 4 and 4, stream credits 16, connection credit 40."
+  pub small-is : small ≡ record { credit = 40; counts = 4 ∷ 4 ∷ []; initial = 16 ∷ 16 ∷ 16 ∷ [] }
+  pub small-two : taken bench (stream 14 0 16 ∷ stream 14 16 1 ∷ []) ≡ (0, 16) ∷ (3, 16) ∷ []
+  pub small-four : taken bench (stream 14 0 0 ∷ stream 18 0 0 ∷ []) ≡ (0, 0) ∷ (4, 0) ∷ []
   -- "C1 25 reads 37. C2 4025 reads 37. C3 7bbd reads 15,293. C4 9d7f3e7d reads 494,878,333. C5 c2197c5eff14e88c reads 151,288,809,941,952,652"
   pub c1 : numberAt (0x25 ∷ []) 0 ≡ Is 37 1
   pub c2 : numberAt (0x40 ∷ 0x25 ∷ []) 0 ≡ Is 37 2

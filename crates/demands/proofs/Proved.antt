@@ -106,7 +106,7 @@ read-as s at kind id _ _ (stream offset len fin place ty next e) =
     record { frame = Stream id offset fin place len; ty = ty; next = next; reads = e; ends = rw (le-ltb (2 ^ 64 - 1) (offset + len) (omega arith)) refl }
 read-as s at kind id _ _ (reset code size ty next e) = record { frame = ResetStream id code size; ty = ty; next = next; reads = e; ends = refl }
 
-settled-answer : (answer : Answer) (c : Conn) (e : Entry) (ty : ℕ) (conn : Conn) (entry : Entry) → settledOf answer c e ty conn entry .answer ≡ answer
+pub settled-answer : (answer : Answer) (c : Conn) (e : Entry) (ty : ℕ) (conn : Conn) (entry : Entry) → settledOf answer c e ty conn entry .answer ≡ answer
 unfolding settledOf
 settled-answer answer c e ty conn entry = holds (λ (j : Judged). j .answer ≡ answer) (accepts answer) _ _ (λ t. sym (accepts-true answer t)) (λ t. refl)
 

@@ -59,6 +59,11 @@ order = record {
   reserved-bits = refl;
   free-bits = refl;
   no-frames = refl;
+  long-no-number = refl;
+  long-below = refl;
+  long-in = refl;
+  long-no-packet = refl;
+  long-no-frames = refl;
 }
 
 pub endings : Endings

@@ -81,6 +81,12 @@ pub record Order : Type 0 where
   pub reserved-bits : AllGet live held 10 ((0x48, 1 ∷ 1 ∷ []) ∷ (0x50, 1 ∷ 1 ∷ []) ∷ (0x58, 1 ∷ 0x1f ∷ []) ∷ (0xc4, 1 ∷ 1 ∷ []) ∷ (0xe8, 1 ∷ 1 ∷ []) ∷ (0xdc, 1 ∷ 1 ∷ []) ∷ (0x58, 1 ∷ []) ∷ [])
   pub free-bits : AllGet live held 0 ((0x44, 1 ∷ 1 ∷ []) ∷ (0x60, 1 ∷ 1 ∷ []) ∷ (0xc0, 1 ∷ 1 ∷ []) ∷ (0xd0, 1 ∷ 1 ∷ []) ∷ (0xe0, 1 ∷ 1 ∷ []) ∷ [])
   pub no-frames : AllGet live held 10 ((0x40, 1 ∷ []) ∷ (0x41, 0x20 ∷ 1 ∷ []) ∷ (0x42, 0 ∷ 0x20 ∷ 1 ∷ []) ∷ (0x43, 0 ∷ 0 ∷ 0x20 ∷ 1 ∷ []) ∷ [])
+  -- the same order of the three long kinds: 111, 106 and 107, each with reserved bits and without, with frames and none; then reserved bits, and no frames
+  pub long-no-number : AllGet live lastHeld 111 ((0xc0, 0 ∷ 1 ∷ []) ∷ (0xdc, 0 ∷ []) ∷ (0xec, 0 ∷ 1 ∷ []) ∷ [])
+  pub long-below : AllGet live held 106 ((0xcd, 0 ∷ 0 ∷ 1 ∷ []) ∷ (0xd1, 0 ∷ 0 ∷ []) ∷ (0xe9, 0 ∷ 0 ∷ []) ∷ [])
+  pub long-in : AllGet live held 107 ((0xcc, 0 ∷ 1 ∷ []) ∷ (0xd0, 0 ∷ []) ∷ (0xe4, 0 ∷ []) ∷ [])
+  pub long-no-packet : AllGet live held 110 ((0xcd, 1 ∷ []) ∷ (0xd2, 1 ∷ 1 ∷ []) ∷ (0xef, 1 ∷ 1 ∷ 1 ∷ []) ∷ [])
+  pub long-no-frames : AllGet live held 10 ((0xc0, 1 ∷ []) ∷ (0xd0, 1 ∷ []) ∷ (0xe1, 0x20 ∷ 1 ∷ []) ∷ [])
 
 -- what each leaves: as no frame was looked at, the place that is told is the end of the bytes
 pub record Endings : Type 0 where
