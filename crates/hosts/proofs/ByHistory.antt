@@ -14,12 +14,15 @@ use Rattle.answers.specs.declared.Answer.{Answer}
 use Rattle.answers.specs.declared.Answer.the-variants.{Accepted, FlowControl, StreamLimit, StreamState, FinalSize, ProtocolViolation, Closed, AboveCeiling, NotServed, SizeKnown}
 use Rattle.answers.proofs.Choice.{holds}
 use Rattle.answers.proofs.Accepts.{accepts-true}
+use Rattle.wire.specs.Number.{numberAt}
+use Rattle.wire.specs.declared.Number.the-variants.{Is, CutShort}
 use Rattle.frames.specs.declared.Frame.{Frame}
 use Rattle.frames.specs.declared.Kind.{Kind}
 use Rattle.frames.specs.declared.Kind.the-variants.{OneRtt}
 use Rattle.frames.specs.declared.Reading.{Reading}
 use Rattle.frames.specs.declared.Reading.the-variants.{Got, Refused}
 use Rattle.frames.specs.Reading.{frameAt}
+use Rattle.frames.proofs.Order.{unreadable}
 use Rattle.halves.specs.Stream.{streamOf, peers, receives, sends, mostStreams}
 use Rattle.entries.specs.declared.Entry.{Entry}
 use Rattle.entries.specs.Entry.{mostCredit, isKnown, finalOf, entryOf}
@@ -45,10 +48,10 @@ use Rattle.packets.specs.Begin.{refusedOf, beginOf}
 use Rattle.receive.specs.Taking.{begunOf}
 use Rattle.steps.specs.Gate.{gateOf}
 use Rattle.steps.specs.Step.{requestOf, decidedOf, shownOf, shownAt}
-use Rattle.steps.specs.declared.Shown.the-variants.{Whole}
+use Rattle.steps.specs.declared.Shown.the-variants.{Nothing as Unseen, Typed, Whole}
 use Rattle.local.specs.Calling.{calledAt}
 use Rattle.accounts.specs.History.{Event, State, own, furthest, finalNamed}
-use Rattle.accounts.specs.Advertised.{creditBy, streamCreditBy, countBy, openBy, nextBy, markBy}
+use Rattle.accounts.specs.Advertised.{creditBy, streamCreditBy, countBy, markBy}
 use Rattle.accounts.proofs.Tests.{or-false, not-both, Has, has-listed}
 use Rattle.accounts.proofs.Fits.{Fits, fits-facts}
 use Rattle.accounts.proofs.Steps.{may}
@@ -227,6 +230,14 @@ module _ (o : Limits) (t : List Entry) (xs : List Act) (h : WasHosted o t) where
     unfolding shownAt shownOf
     shows s at kind frame ty next e = shown-is now live s at kind ∙ rw e refl
 
+    shows-type : (s : List ℕ) (at : ℕ) (kind : Kind) (answer : Answer) (ty value next : ℕ) → frameAt s at kind ≡ Refused answer ty → numberAt s at ≡ Is value next → shownBy now s at kind ≡ Typed value
+    unfolding shownAt shownOf
+    shows-type s at kind answer ty value next e n = shown-is now live s at kind ∙ rw (e, n) refl
+
+    shows-nothing : (s : List ℕ) (at : ℕ) (kind : Kind) → numberAt s at ≡ CutShort → shownBy now s at kind ≡ Unseen
+    unfolding shownAt shownOf
+    shows-nothing s at kind n = shown-is now live s at kind ∙ rw (unreadable s at kind n, n) refl
+
     unclosed : markBy past ≡ Open
     unclosed =
         let l = lifted o t h xs in
@@ -236,6 +247,8 @@ module _ (o : Limits) (t : List Entry) (xs : List Act) (h : WasHosted o t) where
   by-history = record {
     none-closed = unclosed;
     frame-shown = shows;
+    type-shown = shows-type;
+    nothing-shown = shows-nothing;
     frame-judged = judged;
     frame-refused = unread;
     call-answered = λ p k. call-is now fit (ap isOpen p) k ∙ reply-by k;

@@ -7,24 +7,23 @@ use mathlib.Core.List.{List}
 use native.Mathlib.Omega.{arith}
 use lib.ListN.{length}
 use lib.Dec.{leb}
-use borrow.Author.Tests.{not-true, not-false, leb-true, leb-false}
+use borrow.Author.Tests.{not-true, not-false, leb-true}
 use Rattle.answers.specs.Answers.{accepts}
 use Rattle.answers.proofs.Choice.{holds}
 use Rattle.frames.specs.declared.Kind.{Kind}
 use Rattle.frames.proofs.Sound.{sound}
 use Rattle.streams.specs.Conn.{isOpen}
 use Rattle.packets.specs.declared.Begun.{Begun}
-use Rattle.spaces.specs.declared.Records.{Records}
 use Rattle.receive.specs.Taking.{begunOf}
 use Rattle.accounts.specs.History.{State}
 use Rattle.accounts.proofs.Tests.{not-both}
 use Rattle.answers.proofs.Accepts.{accepts-true}
 use Rattle.demands.specs.Hosts.{Act, answered, acted, placeTold, kept}
 use Rattle.demands.specs.Hosts.Act.{TakeFrame, TakePacket}
-use Rattle.demands.specs.Heard.{Run, nextShown, shownBy, oneByOne, framesIn, callsOf}
+use Rattle.demands.specs.Heard.{Run, nextShown, shownBy, oneByOne, callsOf}
 use Rattle.demands.proofs.Frames.{Live}
 use Rattle.demands.proofs.OneByOne.{is-live, is-frames, frames-are, header-refused, still-live, whole-is, next-shown}
-use Rattle.hosts.specs.Whole.{Whole, WalkedWhole}
+use Rattle.hosts.specs.Whole.{WalkedWhole}
 use Rattle.hosts.proofs.Expected.{expected}
 
 -- ---- frames one by one

@@ -8,6 +8,8 @@ use lib.Dec.{ltb, leb}
 use Rattle.answers.specs.Choice.{_⇒_∣_}
 use Rattle.answers.specs.declared.Answer.{Answer}
 use Rattle.answers.specs.declared.Answer.the-variants.{Accepted, FlowControl, StreamLimit, StreamState, FinalSize, ProtocolViolation, Closed, AboveCeiling, NotServed, SizeKnown}
+use Rattle.wire.specs.Number.{numberAt}
+use Rattle.wire.specs.declared.Number.the-variants.{Is, CutShort}
 use Rattle.frames.specs.declared.Frame.{Frame}
 use Rattle.frames.specs.declared.Kind.{Kind}
 use Rattle.frames.specs.declared.Reading.the-variants.{Got, Refused}
@@ -27,7 +29,7 @@ use Rattle.calls.specs.declared.Call.{Call}
 use Rattle.calls.specs.declared.Call.the-variants.{RaiseCredit, RaiseStream, RaiseCount, OpenNext}
 use Rattle.calls.specs.Calls.{raiseOf, peersType, oursType}
 use Rattle.limits.specs.Fits.{sumTo}
-use Rattle.steps.specs.declared.Shown.the-variants.{Whole}
+use Rattle.steps.specs.declared.Shown.the-variants.{Nothing as Unseen, Typed, Whole}
 use Rattle.accounts.specs.History.{Event, State, own, furthest, finalNamed}
 use Rattle.accounts.specs.Advertised.{creditBy, streamCreditBy, countBy, openBy, nextBy, markBy}
 use Rattle.demands.specs.Hosts.{Act, answered, hostAfter}
@@ -96,6 +98,9 @@ pub record ByHistory (o : Limits) (t : List Entry) (xs : List Act) : Type 0 wher
   pub none-closed : hostAfter o t xs .conn .mark ≡ Open → markBy (heardBy o t xs) ≡ Open
   -- a frame that can be read is shown whole, and judged by the state rules; one that cannot has its reading's answer
   pub frame-shown : hostAfter o t xs .conn .mark ≡ Open → (s : List ℕ) (at : ℕ) (kind : Kind) (frame : Frame) (ty next : ℕ) → frameAt s at kind ≡ Got frame ty next → shownBy (hostAfter o t xs) s at kind ≡ Whole frame ty next
+  -- .. else its type where it could be read, and nothing where it could not
+  pub type-shown : hostAfter o t xs .conn .mark ≡ Open → (s : List ℕ) (at : ℕ) (kind : Kind) (answer : Answer) (ty value next : ℕ) → frameAt s at kind ≡ Refused answer ty → numberAt s at ≡ Is value next → shownBy (hostAfter o t xs) s at kind ≡ Typed value
+  pub nothing-shown : hostAfter o t xs .conn .mark ≡ Open → (s : List ℕ) (at : ℕ) (kind : Kind) → numberAt s at ≡ CutShort → shownBy (hostAfter o t xs) s at kind ≡ Unseen
   pub frame-judged : hostAfter o t xs .conn .mark ≡ Open → (s : List ℕ) (at : ℕ) (kind : Kind) (frame : Frame) (ty next : ℕ) → frameAt s at kind ≡ Got frame ty next
       → answered (hostAfter o t xs) (TakeFrame s at kind) ≡ verdictBy o (heardBy o t xs) (viewOf kind frame)
   pub frame-refused : hostAfter o t xs .conn .mark ≡ Open → (s : List ℕ) (at : ℕ) (kind : Kind) (answer : Answer) (ty : ℕ) → frameAt s at kind ≡ Refused answer ty → answered (hostAfter o t xs) (TakeFrame s at kind) ≡ answer

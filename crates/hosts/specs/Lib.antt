@@ -9,3 +9,5 @@ pub mod Showing
 pub mod Leaving
 pub mod ByHistory
 pub mod Whole
+pub mod Checked
+pub mod Marked
