@@ -53,7 +53,7 @@ each rs e = let a = and-eq-true-iff (soundOf (rs .initial)) (soundOf (rs .handsh
 
 module _ (c : Conn) (rs : Records) (byte : ℕ) (s : List ℕ) where
   -- what is known of the number of a packet that goes on to its frames
-  abbrev Sure : Begun → Type 0
+  abbrev pub Sure : Begun → Type 0
   Sure g = accepts (g .answer) ≡ true → takenOf (recordOf rs (spaceOf (g .kind))) (g .number) .answer ≡ Accepted
 
   left-sure : (d : Conn) (answer : Answer) → accepts answer ≡ false → Sure (refusedOf d answer (length s))
@@ -88,7 +88,7 @@ module _ (c : Conn) (rs : Records) (byte : ℕ) (s : List ℕ) where
     kind-sure (Header'.Carries kind) = space-sure kind
     kind-sure Header'.NoPacket = left-sure c NoPacket refl
 
-  begin-sure : (whole : Bool) → Sure (beginOf c rs whole byte s)
+  pub begin-sure : (whole : Bool) → Sure (beginOf c rs whole byte s)
   unfolding beginOf
   begin-sure whole =
       holds Sure (not (whole && recordsFit rs)) _ _ (λ _. left-sure c DoesNotFit refl) (λ e.
@@ -97,7 +97,7 @@ module _ (c : Conn) (rs : Records) (byte : ℕ) (s : List ℕ) where
 
 -- an accepted packet went on to its frames, and its number was handed to the record
 module _ (g : Begun) (w : Stopped) (rs : Records) where
-  finished : finishOf g w rs .answer ≡ Accepted → (accepts (g .answer) ≡ true) × (finishOf g w rs .records ≡ recordedOf rs (spaceOf (g .kind)) (g .number))
+  pub finished : finishOf g w rs .answer ≡ Accepted → (accepts (g .answer) ≡ true) × (finishOf g w rs .records ≡ recordedOf rs (spaceOf (g .kind)) (g .number))
   unfolding finishOf
   finished = go (accepts (g .answer)) (accepts (w .answer)) refl refl
     where

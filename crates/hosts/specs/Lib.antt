@@ -11,3 +11,4 @@ pub mod ByHistory
 pub mod Whole
 pub mod Checked
 pub mod Marked
+pub mod Remembered

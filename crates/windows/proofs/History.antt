@@ -37,7 +37,7 @@ module _ (l : List ℕ) (R : Record) (fit : soundOf R ≡ true) (high : R .top �
 
 -- one number more: it is added, or the record is left
 module _ (l : List ℕ) (R : Record) (h : Holds l R) (n : ℕ) where
-  taken : answerAfter l n ≡ Accepted → Holds (n ∷ l) (takenOf R n .«record»)
+  pub taken : answerAfter l n ≡ Accepted → Holds (n ∷ l) (takenOf R n .«record»)
   unfolding aboveAll isAmong withMark ringOf
   taken e =
       let a : takenOf R n .answer ≡ Accepted = h .next n ∙ e in
