@@ -43,12 +43,14 @@ unfolding numberAt fieldAt valuesIn bigEndian shortest sizeOf formOf belowOf ran
 unfit = record {
   ends = refl;
   sizes = refl;
+  far-sizes = refl;
   unopened-credits = refl;
   unopened-ends = refl;
   unopened-sizes = refl;
   unopened-borders = refl;
   open-ones = refl;
   totals = refl;
+  far-sum = refl;
   total-within = refl;
   ceiling-credit = refl;
   ceiling-counts = refl;

@@ -71,6 +71,12 @@ openedBy l = hostOf (limitsOf 100 4 63 16 17 18) l 0 (tableOf 16 17 18 (fresh 16
 abbrev pub long : ℕ → State
 long n = hostOf (limitsOf 100 4 4 0 0 0) (0 ∷ 0 ∷ 0 ∷ 0 ∷ []) 0 (replicate n (fresh 0))
 
+-- so great ends on the first five streams of type 2 that their sum is 2^64+7, and a total
+abbrev pub fiveEnds : ℕ → State
+fiveEnds total =
+    let most = unsized (2 ^ 62 - 1) (2 ^ 62 - 1) in
+    hostOf (limitsOf (2 ^ 62 - 1) 4 64 16 17 18) (1 ∷ 2 ∷ 64 ∷ 1 ∷ []) total (set (set (set (set (set (tableOf 16 17 18 (fresh 16) (fresh 17) (fresh 18)) 128 most) 129 most) 130 most) 131 most) 132 (unsized 18 11))
+
 -- ---- records
 
 -- the first slot alone is marked: fits with 0 as the largest number, or 8,192, and not with none, 1, or a number above 2^62-1
@@ -131,6 +137,10 @@ pub record Unfit : Type 0 where
       ∷ opened 18 (sized 16 5 4) (sized 17 6 6) (sized 18 7 7) ∷ opened 18 (sized 16 5 5) (sized 17 6 5) (sized 18 7 7) ∷ opened 18 (sized 16 5 5) (sized 17 6 6) (sized 18 7 6)
       ∷ opened 18 (sized 16 5 6) (sized 17 6 6) (sized 18 7 7) ∷ opened 18 (sized 16 5 5) (sized 17 6 7) (sized 18 7 7) ∷ opened 18 (sized 16 5 5) (sized 17 6 6) (sized 18 7 8) ∷ [])
       ≡ 0 ∷ 120 ∷ 120 ∷ 120 ∷ 120 ∷ 120 ∷ 120 ∷ []
+  -- .. also where no stream can have it: 2^64-1 alone stands for none
+  pub far-sizes : pinged (map (λ (n : ℕ). opened 18 (sized 16 5 n) (sized 17 6 6) (sized 18 7 7)) (2 ^ 62 ∷ (2 ^ 64 - 2) ∷ (2 ^ 64 - 1) ∷ [])
+      ++ map (λ (n : ℕ). unopened 0 (fresh 16) (sized 17 0 n) (fresh 18)) (2 ^ 62 ∷ (2 ^ 64 - 2) ∷ (2 ^ 64 - 1) ∷ []))
+      ≡ 120 ∷ 120 ∷ 0 ∷ 120 ∷ 120 ∷ 0 ∷ []
   -- "an unopened entry is not as opening set it": its credit, its end, its final size; an open one may have each
   pub unopened-credits : pinged (unopened 0 (fresh 16) (fresh 17) (fresh 18)
       ∷ unopened 0 (fresh 15) (fresh 17) (fresh 18) ∷ unopened 0 (fresh 16) (fresh 16) (fresh 18) ∷ unopened 0 (fresh 16) (fresh 17) (fresh 17)
@@ -142,6 +152,8 @@ pub record Unfit : Type 0 where
   pub open-ones : pinged (opened 0 (fresh 15) (fresh 16) (fresh 17) ∷ opened 0 (fresh 17) (fresh 18) (fresh 19) ∷ opened 3 (unsized 16 1) (unsized 17 1) (unsized 18 1) ∷ opened 0 (sized 16 0 0) (sized 17 0 0) (sized 18 0 0) ∷ []) ≡ 0 ∷ 0 ∷ 0 ∷ 0 ∷ []
   -- "the total is not the sum of the ends or is above the connection credit"
   pub totals : pinged (map (λ (n : ℕ). opened n (unsized 16 5) (unsized 17 6) (unsized 18 7)) (17 ∷ 18 ∷ 19 ∷ [])) ≡ 120 ∷ 0 ∷ 120 ∷ []
+  -- .. a sum above 2^64 is no smaller number: four ends of 2^62-1 and one of 11 are 2^64+7
+  pub far-sum : pinged (map (λ (n : ℕ). fiveEnds n) (7 ∷ (2 ^ 62 - 1) ∷ (2 ^ 64 - 1) ∷ [])) ≡ 120 ∷ 120 ∷ 120 ∷ []
   pub total-within : pinged (map (λ (n : ℕ). hostOf (limitsOf n 4 64 16 17 18) (1 ∷ 2 ∷ 64 ∷ 1 ∷ []) 18 (tableOf 16 17 18 (unsized 16 5) (unsized 17 6) (unsized 18 7))) (17 ∷ 18 ∷ 19 ∷ [])) ≡ 120 ∷ 0 ∷ 0 ∷ []
   -- "a limit is above its ceiling": "64 streams a type, credit 2^62-1". The connection credit; the counts of types 0 and 2 ..
   pub ceiling-credit : pinged (map (λ (n : ℕ). limited (limitsOf n 4 64 16 17 18)) ((2 ^ 62 - 1) ∷ 2 ^ 62 ∷ (2 ^ 64 - 1) ∷ [])) ≡ 0 ∷ 120 ∷ 120 ∷ []
