@@ -32,6 +32,8 @@ ack-written = record {
   no-room-last = refl;
   runs-32 = refl;
   runs-33 = refl;
+  runs = refl;
+  over-words = refl;
 }
 
 pub frames-written : FramesWritten

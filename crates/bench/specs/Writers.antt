@@ -15,7 +15,7 @@ use Rattle.contents.specs.Content.{contents}
 use Rattle.sizes.specs.Spelled.{frameDraft}
 use Rattle.records.specs.declared.Record.{Record}
 use Rattle.records.specs.Marks.{noneOf}
-use Rattle.acks.specs.Ack.{ackDraft}
+use Rattle.acks.specs.Ack.{ackOf, ackDraft}
 
 -- ---- acknowledgements
 
@@ -49,6 +49,10 @@ pub record AckWritten : Type 0 where
   -- "at most 32 runs, from the highest number down [..] lower runs left off only after the 32nd": the even numbers to 62 are 32 runs; with 64 there are 33, and 0 is left off
   pub runs-32 : ackDraft (recordBy 0x5555555555555555 0 63) 0 ≡ Bytes (0x02 ∷ 62 ∷ 0 ∷ 31 ∷ 0 ∷ replicate 62 0)
   pub runs-33 : ackDraft (recordBy 0x5555555555555555 1 65) 0 ≡ Bytes (0x02 ∷ 0x40 ∷ 0x40 ∷ 0 ∷ 31 ∷ 0 ∷ replicate 62 0)
+  -- one run, down to number 0; one number; a gap of two and of three numbers
+  pub runs : map (λ R. ackOf R 5) (recordBy 7 0 3 ∷ recordBy 4 0 3 ∷ recordBy 25 0 5 ∷ recordBy 17 0 5 ∷ []) ≡ (2 ∷ 2 ∷ 5 ∷ 0 ∷ 2 ∷ []) ∷ (2 ∷ 2 ∷ 5 ∷ 0 ∷ 0 ∷ []) ∷ (2 ∷ 4 ∷ 5 ∷ 1 ∷ 1 ∷ 1 ∷ 0 ∷ []) ∷ (2 ∷ 4 ∷ 5 ∷ 1 ∷ 0 ∷ 2 ∷ 0 ∷ []) ∷ []
+  -- a run over two words: 62 to 65
+  pub over-words : ackOf (recordBy (2 ^ 63 + 2 ^ 62) 3 66) 0 ≡ 2 ∷ 65 ∷ 0 ∷ 0 ∷ 3 ∷ []
 
 -- ---- rows of numbers and frames
 

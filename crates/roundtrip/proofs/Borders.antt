@@ -18,18 +18,7 @@ use Rattle.roundtrip.specs.Borders.{Borders}
 pub borders : Borders
 unfolding bigEndian fieldAt valuesIn numberAt spelled formOf sizeOf bytesOf writes numberDraft inRange bytesAll listed fits layouts layoutOf aboveOf tooMany misissuedOf faultOf streamType wayType insideOf takes fourBytes spelledFrame frameDraft measuredOf identityDraft placeAfter
 borders = record {
-  stream = refl;
-  bytes = refl;
-  identity = refl;
-  ranges = refl;
-  ranges-ecn = refl;
-  room = refl;
-  before-room = refl;
-  values = refl;
   highest = refl;
-  refused = refl;
-  refused-ids = refl;
-  refused-runs = refl;
   outside = refl;
   measured = refl;
   measured-said = refl;

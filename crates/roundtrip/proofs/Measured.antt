@@ -1,6 +1,6 @@
 -- A measure is what writing needs: a frame is written just where the output has as many bytes from the place on, up to the place after so many; with fewer it is 108, and 109 comes just where there is no measure.
 -- Assumes nothing.
-use mathlib.Core.Path.{_≡_, sym, _∙_, ap}
+use mathlib.Core.Path.{_≡_, sym, ap}
 use mathlib.Core.List.{List}
 use Prim.Native.Nat.{ℕ, _+_, _≤_, _<_}
 use native.Mathlib.Omega.{arith}

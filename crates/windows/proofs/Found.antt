@@ -1,8 +1,8 @@
 -- The next run that a record tells is the one that is meant, and it is told of a record that fits alone: the call looks at the record first.
 -- Assumes nothing.
 use Prim.Native.Nat.{ℕ}
-use mathlib.Core.Path.{_≡_, refl, sym, _∙_, subst}
-use mathlib.Core.Bool.{Bool, true, false, not}
+use mathlib.Core.Path.{_≡_, subst}
+use mathlib.Core.Bool.{true, false, not}
 use borrow.Author.Tests.{not-false}
 use Rattle.answers.specs.declared.Answer.the-variants.{DoesNotFit}
 use Rattle.answers.proofs.Choice.{holds}
