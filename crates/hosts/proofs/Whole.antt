@@ -56,6 +56,9 @@ pub walked-whole : WalkedWhole
 walked-whole h rs first s four = record {
   to-the-end = λ a p. go (accepts (g .answer)) refl a p;
   none-walked = λ a. header-refused h rs first s a .place;
+  none-answered = λ a. header-refused h rs first s a .answer;
+  none-left = λ a. header-refused h rs first s a .left;
+  none-recorded = λ a. header-refused h rs first s a .records;
 }
   where
     g : Begun

@@ -9,13 +9,17 @@ use Rattle.streams.specs.Conn.{isOpen}
 use Rattle.spaces.specs.declared.Records.{Records}
 use Rattle.receive.specs.Taking.{begunOf}
 use Rattle.accounts.specs.History.{State}
-use Rattle.demands.specs.Hosts.{answered, acted, placeTold}
+use Rattle.demands.specs.Hosts.{answered, acted, recordsAfter, placeTold}
 use Rattle.demands.specs.Hosts.Act.{TakePacket}
+use Rattle.demands.specs.Demand1.{leaves}
 
 pub record Whole (h : State) (rs : Records) (first : ℕ) (s : List ℕ) : Type 0 where
   pub to-the-end : accepts (answered h (TakePacket rs first s)) ≡ true → isOpen (acted h (TakePacket rs first s) .conn .mark) ≡ true → placeTold h rs first s ≡ length s
-  -- one that is refused before its frames has none, and tells the same place
+  -- one that is refused before its frames has none, and tells the same place; its answer is that of the check which refuses it, and it leaves the records, and all else but the mark, whose type is 0
   pub none-walked : accepts (begunOf (h .conn) rs (h .table) first s .answer) ≡ false → placeTold h rs first s ≡ length s
+  pub none-answered : accepts (begunOf (h .conn) rs (h .table) first s .answer) ≡ false → answered h (TakePacket rs first s) ≡ begunOf (h .conn) rs (h .table) first s .answer
+  pub none-left : accepts (begunOf (h .conn) rs (h .table) first s .answer) ≡ false → acted h (TakePacket rs first s) ≡ leaves (begunOf (h .conn) rs (h .table) first s .answer) 0 h
+  pub none-recorded : accepts (begunOf (h .conn) rs (h .table) first s .answer) ≡ false → recordsAfter h rs first s ≡ rs
 
 -- whatever the host keeps: its connection has four numbers of what is open, as the type says
 abbrev pub WalkedWhole : Type 0
