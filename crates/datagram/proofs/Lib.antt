@@ -2,4 +2,3 @@ pub mod Inside
 pub mod Unseen
 pub mod Unique
 pub mod Said
-pub mod Borders

@@ -3,4 +3,3 @@ pub mod Split
 pub mod Inside
 pub mod Unseen
 pub mod Said
-pub mod Borders

@@ -3,8 +3,8 @@
 use mathlib.Core.Path.{refl}
 use Rattle.wire.specs.Number.{bigEndian, fieldAt, valuesIn, numberAt}
 use Rattle.invariants.specs.Invariant.{bytesAfter, invariantOf}
 use Rattle.datagram.specs.Split.{negotiationOf, retryOf, numberedOf, initialOf, versionOneOf, longOf, shortOf, nextOf}
-use Rattle.datagram.specs.Borders.{Borders}
+use Rattle.splits.specs.Borders.{Borders}
 
 pub borders : Borders
 unfolding bigEndian fieldAt valuesIn numberAt bytesAfter invariantOf negotiationOf retryOf numberedOf initialOf versionOneOf longOf shortOf nextOf
