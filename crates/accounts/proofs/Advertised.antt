@@ -19,8 +19,8 @@ use Rattle.streams.specs.declared.Conn.{Conn}
 use Rattle.entries.specs.declared.Entry.{Entry}
 use Rattle.streams.specs.declared.Limits.{Limits}
 use Rattle.streams.specs.declared.Mark.the-variants.{Open}
-use Rattle.streams.specs.declared.Space.{Space}
-use Rattle.streams.specs.declared.Space.the-variants.{Initial, Handshake, Application}
+use Rattle.kinds.specs.declared.Space.{Space}
+use Rattle.kinds.specs.declared.Space.the-variants.{Initial, Handshake, Application}
 use Rattle.halves.specs.Stream.{idOf, peers, mostStreams, listed, placeOf}
 use Rattle.entries.specs.Entry.{fresh, reached, credited, entryAt, entryOf}
 use Rattle.streams.specs.Conn.{limitedTo, advertisedOf, initialOf, withCount, openedOf, countOf, openTo, indexOf, nextOf, handedOn}

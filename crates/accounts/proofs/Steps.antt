@@ -21,7 +21,7 @@ use Rattle.entries.specs.declared.Final.{Final}
 use Rattle.entries.specs.declared.Final.the-variants.{Known}
 use Rattle.streams.specs.declared.Mark.{Mark}
 use Rattle.streams.specs.declared.Mark.the-variants.{ByPeer}
-use Rattle.streams.specs.declared.Space.{Space}
+use Rattle.kinds.specs.declared.Space.{Space}
 use Rattle.halves.specs.Stream.{streamOf, idOf, peers, receives, sends, mostStreams, placeOf}
 use Rattle.entries.specs.Entry.{mostCredit, finalOf, isKnown, fresh, reached, credited, entryOf}
 use Rattle.streams.specs.Conn.{isOpen, markedAs, limitedTo, initialOf, withCredit, withCount, openedOf, countOf, openTo, handedOn}

@@ -8,7 +8,7 @@ use Rattle.answers.specs.Choice.{_⇒_∣_}
 use Rattle.streams.specs.declared.Limits.{Limits}
 use Rattle.streams.specs.declared.Mark.{Mark}
 use Rattle.streams.specs.declared.Mark.the-variants.{Open, ByPeer}
-use Rattle.streams.specs.declared.Space.{Space}
+use Rattle.kinds.specs.declared.Space.{Space}
 use Rattle.halves.specs.Stream.{halfOf, ordinalOf, receives, listed}
 use Rattle.streams.specs.Conn.{initialOf, indexOf}
 use Rattle.views.specs.declared.View.the-variants.{Ends, Blocks, ForSender, Acks, Closes, Nothing}

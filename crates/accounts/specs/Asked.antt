@@ -1,14 +1,14 @@
--- What each of the 22 frames asks of the streams, with values that all differ, whatever packet carries it; and at which entry of the table it looks. Document 01, "Streams and credit".
+-- What each of the 22 frames asks of the streams, with values that all differ, whatever packet carries it; and at which entry of the table it looks. docs/RULES.md, "Streams and credit".
 use Prim.Native.Nat.{ℕ, _-_, _^_}
 use mathlib.Core.Path.{_≡_}
 use mathlib.Core.Bool.{true, false}
 use mathlib.Core.List.{[], _∷_, map}
-use Rattle.frames.specs.declared.Kind.{Kind}
-use Rattle.frames.specs.declared.Kind.the-variants.{Initial as Initial', Handshake as Handshake', ZeroRtt, OneRtt}
+use Rattle.kinds.specs.declared.Kind.{Kind}
+use Rattle.kinds.specs.declared.Kind.the-variants.{Initial as Initial', Handshake as Handshake', ZeroRtt, OneRtt}
 use Rattle.frames.specs.declared.Frame.the-variants as Frame'
 use Rattle.halves.specs.declared.Stream.{Stream}
 use Rattle.halves.specs.Stream.{streamOf, idOf, placeOf}
-use Rattle.streams.specs.declared.Space.the-variants.{Initial, Handshake, Application}
+use Rattle.kinds.specs.declared.Space.the-variants.{Initial, Handshake, Application}
 use Rattle.views.specs.declared.View.the-variants.{Ends, Blocks, ForSender, Acks, Closes, Nothing}
 use Rattle.views.specs.View.{endOf, viewOf, streamIn, framePlace}
 

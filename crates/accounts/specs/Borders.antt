@@ -1,17 +1,17 @@
--- Document 01's rules of streams, local calls and 120 at their borders, each from both sides: they hold the definitions to the document. Beside each, its sentence.
+-- The rules of streams, local calls and 120 at their borders, each from both sides: they hold the definitions to docs/RULES.md. Beside each, its sentence.
 use Prim.Native.Nat.{ℕ, _-_, _^_}
 use mathlib.Core.Path.{_≡_}
 use mathlib.Core.Bool.{true, false}
 use mathlib.Core.List.{List, [], _∷_, map}
 use Rattle.answers.specs.Answers.{numberOf}
-use Rattle.frames.specs.declared.Kind.the-variants.{Initial as Initial', Handshake as Handshake', ZeroRtt, OneRtt}
+use Rattle.kinds.specs.declared.Kind.the-variants.{Initial as Initial', Handshake as Handshake', ZeroRtt, OneRtt}
 use Rattle.frames.specs.declared.Frame.the-variants.{Ack, AckEcn, ResetStream, StopSending, Stream, MaxData, MaxStreamData, StreamDataBlocked, ConnectionClose, ApplicationClose}
 use Rattle.streams.specs.declared.Conn.{Conn}
 use Rattle.entries.specs.declared.Entry.{Entry}
 use Rattle.streams.specs.declared.Limits.{Limits}
 use Rattle.streams.specs.declared.Mark.{Mark}
 use Rattle.streams.specs.declared.Mark.the-variants.{Open, ByPeer}
-use Rattle.streams.specs.declared.Space.the-variants.{Initial, Handshake, Application}
+use Rattle.kinds.specs.declared.Space.the-variants.{Initial, Handshake, Application}
 use Rattle.entries.specs.Entry.{fresh}
 use Rattle.streams.specs.Conn.{openedOf, handedOutOf}
 use Rattle.opening.specs.Opening.{openedConn, openingOf}

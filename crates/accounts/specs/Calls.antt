@@ -1,4 +1,4 @@
--- The local calls at their borders, whole: the answer, the number handed out, the connection in all its parts and the entry, on a connection all of whose numbers differ. Document 01, "Order: 101, 104, 105, 103, 102"; a refused call leaves "nothing changed".
+-- The local calls at their borders, whole: the answer, the number handed out, the connection in all its parts and the entry, on a connection all of whose numbers differ. docs/RULES.md, "Local calls": "Order: 101, 104, 105, 103, 102"; a refused call leaves "nothing changed".
 use Prim.Native.Nat.{ℕ, _+_, _-_, _^_}
 use mathlib.Core.Path.{_≡_}
 use mathlib.Core.List.{[], _∷_, map}
@@ -9,7 +9,7 @@ use Rattle.streams.specs.declared.Called.{Called}
 use Rattle.streams.specs.declared.Conn.{Conn}
 use Rattle.streams.specs.declared.Mark.{Mark}
 use Rattle.streams.specs.declared.Mark.the-variants.{Open, Code, ByPeer}
-use Rattle.streams.specs.declared.Space.the-variants.{Initial, Handshake, Application}
+use Rattle.kinds.specs.declared.Space.the-variants.{Initial, Handshake, Application}
 use Rattle.streams.specs.Conn.{handedOutOf}
 use Rattle.entries.specs.declared.Entry.{Entry}
 use Rattle.calls.specs.declared.Call.{Call}

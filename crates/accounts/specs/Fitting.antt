@@ -1,4 +1,4 @@
--- 120 for the table clause by clause, each from both sides, on a connection all of whose numbers differ: document 01, "120 for the table, before all else and only then".
+-- 120 for the table clause by clause, each from both sides, on a connection all of whose numbers differ: docs/RULES.md, "120 for the table": "120 for the table, before all else and only then".
 use Prim.Native.Nat.{ℕ, _-_, _^_}
 use mathlib.Core.Path.{_≡_}
 use mathlib.Core.Bool.{Bool, true, false}

@@ -14,7 +14,7 @@ use Rattle.entries.specs.declared.Final.{Final}
 use Rattle.entries.specs.declared.Final.the-variants.{Unknown, Known}
 use Rattle.streams.specs.declared.Limits.{Limits}
 use Rattle.streams.specs.declared.Mark.the-variants.{Open}
-use Rattle.streams.specs.declared.Space.{Space}
+use Rattle.kinds.specs.declared.Space.{Space}
 use Rattle.halves.specs.Stream.{streamOf, mostStreams, entries, placeOf}
 use Rattle.entries.specs.Entry.{fresh, entryOf}
 use Rattle.streams.specs.Conn.{isOpen, initialOf, handedOn, handedOutOf}

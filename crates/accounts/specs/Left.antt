@@ -1,14 +1,14 @@
--- What each frame leaves, whole: the answer, the connection in all its parts and the entry, on a connection all of whose numbers differ. Document 01, "Acceptance sets furthest end, total and, where given, final size. It opens all lower ordinals of the type", and "it changes nothing itself, the connection closes with its code and type".
+-- What each frame leaves, whole: the answer, the connection in all its parts and the entry, on a connection all of whose numbers differ. docs/RULES.md, "Streams and credit": "Acceptance sets furthest end, total and, where given, final size. It opens all lower ordinals of the type", and "it changes nothing itself, the connection closes with its code and type".
 use Prim.Native.Nat.{ℕ}
 use mathlib.Core.Path.{_≡_}
 use mathlib.Core.Bool.{true, false}
 use Rattle.answers.specs.declared.Answer.{Answer}
 use Rattle.answers.specs.declared.Answer.the-variants.{Accepted, FlowControl, StreamLimit, StreamState, FinalSize, ProtocolViolation}
-use Rattle.frames.specs.declared.Kind.the-variants.{OneRtt}
+use Rattle.kinds.specs.declared.Kind.the-variants.{OneRtt}
 use Rattle.frames.specs.declared.Frame.the-variants.{ResetStream, Stream}
 use Rattle.streams.specs.declared.Conn.{Conn}
 use Rattle.streams.specs.declared.Mark.the-variants.{Open, Code, ByPeer}
-use Rattle.streams.specs.declared.Space.the-variants.{Initial, Handshake, Application}
+use Rattle.kinds.specs.declared.Space.the-variants.{Initial, Handshake, Application}
 use Rattle.entries.specs.declared.Entry.{Entry}
 use Rattle.views.specs.declared.View.{View}
 use Rattle.views.specs.declared.View.the-variants.{Ends, Blocks, ForSender, Acks, Closes, Nothing}

@@ -1,4 +1,4 @@
--- Opening with six different numbers, whole: which credit and which count goes to which type, the entries that are set, and what a refused opening gives. Document 01, "open a connection (initial stream credits for types 0, 1 and 2, counts for types 0 and 2, connection credit)".
+-- Opening with six different numbers, whole: which credit and which count goes to which type, the entries that are set, and what a refused opening gives. docs/RULES.md, "Local calls": "open a connection (initial stream credits for types 0, 1 and 2, counts for types 0 and 2, connection credit)".
 use Prim.Native.Nat.{_-_, _^_}
 use mathlib.Core.Path.{_≡_}
 use mathlib.Core.List.{[], _∷_, map}

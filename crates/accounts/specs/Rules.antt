@@ -1,14 +1,14 @@
--- Document 01's rules 1 to 5 and those of the frames that name a stream without an end, at their borders: each rule alone from both sides, and each before the next where both refuse. Beside each, its sentence.
+-- docs/RULES.md, "Streams and credit": rules 1 to 5 and those of the frames that name a stream without an end, at their borders: each rule alone from both sides, and each before the next where both refuse. Beside each, its sentence.
 use Prim.Native.Nat.{ℕ, _-_, _^_}
 use mathlib.Core.Path.{_≡_}
 use mathlib.Core.Bool.{Bool, true, false}
 use mathlib.Core.List.{List, [], _∷_, map}
 use Rattle.answers.specs.Answers.{numberOf}
-use Rattle.frames.specs.declared.Kind.the-variants.{OneRtt}
+use Rattle.kinds.specs.declared.Kind.the-variants.{OneRtt}
 use Rattle.frames.specs.declared.Frame.the-variants.{ResetStream}
 use Rattle.streams.specs.declared.Conn.{Conn}
 use Rattle.streams.specs.declared.Mark.the-variants.{Open}
-use Rattle.streams.specs.declared.Space.the-variants.{Initial, Handshake, Application}
+use Rattle.kinds.specs.declared.Space.the-variants.{Initial, Handshake, Application}
 use Rattle.entries.specs.declared.Entry.{Entry}
 use Rattle.entries.specs.declared.Final.the-variants.{Unknown, Known}
 use Rattle.entries.specs.Entry.{finalOf, fresh}

@@ -1,4 +1,4 @@
--- The acknowledgement of a space, document 01, "Acknowledgement"; RFC 9000, 19.3: the recorded numbers as an ACK frame of at most 32 runs.
+-- The acknowledgement of a space, docs/RULES.md, "Acknowledgement"; RFC 9000, 19.3: the recorded numbers as an ACK frame of at most 32 runs.
 use Prim.Native.Nat.{ℕ, _-_}
 use mathlib.Core.Bool.{not}
 use mathlib.Core.List.{List, [], _∷_}

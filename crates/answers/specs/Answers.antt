@@ -1,4 +1,4 @@
--- The numbers of the answers, document 01, "Answer numbers": the one place where they stand.
+-- The numbers of the answers, docs/RULES.md, "Answer numbers": the one place where they stand.
 use Prim.Native.Nat.{ℕ}
 use mathlib.Core.Bool.{Bool}
 use lib.Dec.{eqb}
@@ -8,7 +8,7 @@ use Rattle.answers.specs.declared.Answer.the-variants.{Accepted, Done, F
 abbrev pub numberOf : Answer → ℕ
 -- accepted
 numberOf Accepted = 0
--- an empty rest: the document says "done" and gives no number; 100 is free
+-- an empty rest: "done", whose number is ours
 numberOf Done = 100
 -- FLOW_CONTROL_ERROR, STREAM_LIMIT_ERROR, STREAM_STATE_ERROR, FINAL_SIZE_ERROR, FRAME_ENCODING_ERROR, PROTOCOL_VIOLATION (RFC 9000, 20.1)
 numberOf FlowControl = 3
@@ -47,7 +47,7 @@ numberOf DoesNotFit = 120
 abbrev pub accepts : Answer → Bool
 accepts answer = eqb (numberOf answer) 0
 
--- what a call answers: this paper's number, and the values that come with it
+-- what a call answers: its number, and the values that come with it
 pub record Said (Values : Type 0) : Type 0 where
   pub number : ℕ
   pub values : Values

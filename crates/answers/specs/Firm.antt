@@ -1,4 +1,4 @@
--- How firm a contract is (document 01, "How firm each statement is"): it asks nothing of the caller, and any two outcomes that meet it are one.
+-- How firm a contract is (docs/RULES.md, "How firm each statement is"): it asks nothing of the caller, and any two outcomes that meet it are one.
 use mathlib.Core.Path.{_≡_}
 use Prim.Native.Nat.{ℕ}
 use mathlib.Core.List.{List}

@@ -1,4 +1,4 @@
--- Document 01's table of answer numbers as one row: the numbers of all answers, in its order.
+-- The table of answer numbers of docs/RULES.md as one row: the numbers of all answers, in its order.
 use mathlib.Core.Path.{_≡_}
 use mathlib.Core.List.{List, [], _∷_, map}
 use Rattle.answers.specs.Answers.{numberOf}
@@ -13,5 +13,5 @@ everyAnswer =
     ∷ DoesNotFit ∷ []
 
 pub record Table : Type 0 where
-  -- "0; done", "3, 4, 5, 6, 7, 10", "101" to "112", "120"; the document gives "done" no number, and 100 is ours
+  -- "0; done", "3, 4, 5, 6, 7, 10", "101" to "112", "120"; 100 is ours
   pub numbers : map numberOf everyAnswer ≡ 0 ∷ 100 ∷ 3 ∷ 4 ∷ 5 ∷ 6 ∷ 7 ∷ 10 ∷ 101 ∷ 102 ∷ 103 ∷ 104 ∷ 105 ∷ 106 ∷ 107 ∷ 108 ∷ 109 ∷ 110 ∷ 111 ∷ 112 ∷ 120 ∷ []

@@ -1,4 +1,4 @@
-// The fixed list of answers (document 01, "Answer numbers"): every call of every crate answers from it.
+// The fixed list of answers (docs/RULES.md, "Answer numbers"): every call of every crate answers from it.
 ghost use mathlib.Core.Path.{_≡_};
 ghost use Rattle.answers.specs.Answers.{numberOf};
 
@@ -31,7 +31,7 @@ pub enum Answer {
 }
 
 impl Answer {
-    // The number that document 01 gives to an answer.
+    // The number that docs/RULES.md gives to an answer.
     pub fn number(self) -> u64
         ensures { λ r. ⌜ r ≡ numberOf self ⌝ }
     {

@@ -27,9 +27,9 @@ use Rattle.entries.specs.Fitting.{isFresh, entryFitsAs}
 use Rattle.steps.specs.Gate.{gateOf}
 use Rattle.opening.specs.Opening.{openingWhen, entriesOf}
 use Rattle.steps.specs.Step.{requestOf, requestAt, decidedOf}
-use Rattle.local.specs.Table.{filledTo, openedTable}
-use Rattle.walks.specs.Walk.{decidedAt}
-use Rattle.receive.specs.Taking.{tookFrameOf, frameTable}
+use Rattle.tables.specs.Opened.{filledTo, openedTable}
+use Rattle.single.specs.Single.{decidedAt}
+use Rattle.single.specs.Single.{tookFrameOf, frameTable}
 use Rattle.demands.specs.Hosts.{hosted}
 use Rattle.bench.specs.Bench.{taken, Bench}
 

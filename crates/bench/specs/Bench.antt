@@ -1,4 +1,4 @@
--- Document 01, "Bench examples": C1 to C16 as rows of a single claim about the definitions.
+-- docs/RULES.md, "Bench examples": C1 to C16 as rows of a single claim about the definitions.
 use Prim.Native.Nat.{ℕ}
 use mathlib.Core.Path.{_≡_}
 use mathlib.Core.List.{List, [], _∷_}
@@ -7,7 +7,7 @@ use mathlib.Core.List.{_++_}
 use Rattle.answers.specs.Answers.{numberOf}
 use Rattle.wire.specs.Number.{numberAt}
 use Rattle.wire.specs.declared.Number.the-variants.{Is}
-use Rattle.frames.specs.declared.Kind.the-variants.{OneRtt}
+use Rattle.kinds.specs.declared.Kind.the-variants.{OneRtt}
 use Rattle.numbers.specs.Numbers.{recoveredOf}
 use Rattle.numbers.specs.declared.Size.the-variants.{Two}
 use Rattle.numbers.specs.declared.Recovered.the-variants as Recovered'

@@ -4,7 +4,7 @@ use mathlib.Core.Path.{_≡_}
 use mathlib.Core.Bool.{true, false}
 use mathlib.Core.List.{List, [], _∷_, _++_, map}
 use lib.ListN.{replicate}
-use Rattle.frames.specs.declared.Kind.the-variants.{Initial, Handshake, ZeroRtt, OneRtt}
+use Rattle.kinds.specs.declared.Kind.the-variants.{Initial, Handshake, ZeroRtt, OneRtt}
 use Rattle.numbers.specs.declared.Size.the-variants.{One, Two, Three, Four}
 use Rattle.headers.specs.declared.Header.the-variants.{Carries, NoPacket}
 use Rattle.headers.specs.First.{headerOf, sizeIn, reservedOf}

@@ -4,7 +4,7 @@ use mathlib.Core.List.{List, [], _∷_}
 use lib.ListN.{replicate}
 use Prim.Native.Nat.{ℕ}
 use Rattle.answers.specs.Answers.{numberOf}
-use Rattle.frames.specs.declared.Kind.the-variants.{OneRtt}
+use Rattle.kinds.specs.declared.Kind.the-variants.{OneRtt}
 use Rattle.entries.specs.declared.Entry.{Entry}
 use Rattle.halves.specs.Stream.{entries}
 use Rattle.entries.specs.Entry.{fresh}

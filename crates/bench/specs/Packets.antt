@@ -1,10 +1,10 @@
--- Document 01's rules of a packet before its frames at their borders: they hold the definitions to the document. Beside each, its sentence.
+-- The rules of a packet before its frames at their borders: they hold the definitions to docs/RULES.md. Beside each, its sentence.
 use Prim.Native.Nat.{ℕ}
 use mathlib.Core.Path.{_≡_}
 use mathlib.Core.Bool.{true, false}
 use mathlib.Core.List.{List, [], _∷_, map}
 use Rattle.answers.specs.Answers.{numberOf}
-use Rattle.frames.specs.declared.Kind.the-variants.{Initial, Handshake, ZeroRtt, OneRtt}
+use Rattle.kinds.specs.declared.Kind.the-variants.{Initial, Handshake, ZeroRtt, OneRtt}
 use Rattle.numbers.specs.declared.Size.the-variants.{One, Two, Three, Four}
 use Rattle.records.specs.declared.Record.{Record}
 use Rattle.records.specs.Marks.{noneOf}

@@ -1,4 +1,4 @@
--- Document 01, "Writers check 120, 112, 109, 108 where these apply", "Writing uses the shortest form": each pair of neighbours by an input that both would refuse, the output whole at exit, and one frame of each type written to its bytes.
+-- docs/RULES.md, "Writing": "Writers check 120, 112, 109, 108 where these apply", "Writing uses the shortest form": each pair of neighbours by an input that both would refuse, the output whole at exit, and one frame of each type written to its bytes.
 use Prim.Native.Nat.{ℕ, _+_, _-_, _^_}
 use mathlib.Core.Path.{_≡_}
 use mathlib.Core.Bool.{true, false}

@@ -1,4 +1,4 @@
--- The local calls, document 01: their answers in the order 101, 104, 105, 103, 102, and what an accepted call leaves of a connection and of ONE entry. A refused call changes nothing.
+-- The local calls, docs/RULES.md, "Local calls": their answers in the order 101, 104, 105, 103, 102, and what an accepted call leaves of a connection and of ONE entry. A refused call changes nothing.
 use Prim.Native.Nat.{ℕ}
 use mathlib.Core.Bool.{Bool, not, _&&_, _||_}
 use lib.Dec.{ltb, leb}

@@ -1,4 +1,4 @@
-// The local calls (document 01, "Local calls"): one enum, and what a call does to a connection and to ONE entry of its table,
+// The local calls (docs/RULES.md, "Local calls"): one enum, and what a call does to a connection and to ONE entry of its table,
 // by value. Handing out a packet number is none of them: it looks at neither the table nor the closing mark.
 ghost use mathlib.Core.Path.{_≡_};
 ghost use Rattle.halves.specs.Stream.{halfOf, placeOf};

@@ -1,4 +1,4 @@
-// A row of the listing and its last line as text (document 01, "Bench examples"): place, type, code and total of a frame in decimal, single blanks between them, and a newline.
+// A row of the listing and its last line as text (docs/RULES.md, "The listing"): place, type, code and total of a frame in decimal, single blanks between them, and a newline.
 ghost use mathlib.Core.Path.{_≡_};
 ghost use mathlib.Core.List.{_++_};
 ghost use Prim.Native.Nat.{_+_, _≤_};

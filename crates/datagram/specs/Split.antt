@@ -1,4 +1,4 @@
--- Splitting a datagram, document 01, "Splitting a datagram": one packet's header from the rest of a datagram.
+-- Splitting a datagram, docs/RULES.md, "Splitting a datagram": one packet's header from the rest of a datagram.
 use Prim.Native.Nat.{ℕ, _+_, _-_, _%_}
 use mathlib.Core.Bool.{not}
 use mathlib.Core.List.{List}

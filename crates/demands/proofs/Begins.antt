@@ -13,7 +13,7 @@ use Rattle.answers.specs.declared.Answer.{Answer}
 use Rattle.answers.specs.declared.Answer.the-variants.{Accepted, Closed, BelowRecord, InRecord, NoPacket, NoSuchNumber, DoesNotFit}
 use Rattle.answers.proofs.Choice.{holds}
 use Rattle.wire.specs.Number.{bigEndian}
-use Rattle.frames.specs.declared.Kind.{Kind}
+use Rattle.kinds.specs.declared.Kind.{Kind}
 use Rattle.numbers.specs.Numbers.{bytesIn, windowOf, nearestOf, recoveredOf}
 use Rattle.numbers.specs.declared.Recovered.{Recovered}
 use Rattle.numbers.specs.declared.Recovered.the-variants as Recovered'
@@ -21,7 +21,7 @@ use Rattle.records.specs.declared.Record.{Record}
 use Rattle.records.specs.Marks.{recorded, testOf}
 use Rattle.streams.specs.declared.Conn.{Conn}
 use Rattle.streams.specs.Conn.{isOpen}
-use Rattle.streams.specs.Conn.{spaceOf}
+use Rattle.kinds.specs.Kinds.{spaceOf}
 use Rattle.answers.specs.Answers.{accepts}
 use Rattle.accounts.proofs.Tests.{not-both}
 use Rattle.headers.specs.First.{headerOf, sizeIn, reservedOf}

@@ -9,7 +9,7 @@ use Rattle.answers.specs.declared.Answer.the-variants.{Accepted}
 use Rattle.answers.proofs.Accepts.{accepts-true}
 use Rattle.answers.proofs.Choice.{holds}
 use Rattle.answers.proofs.Distinct.{impossible}
-use Rattle.frames.specs.declared.Kind.{Kind}
+use Rattle.kinds.specs.declared.Kind.{Kind}
 use Rattle.spaces.specs.declared.Records.{Records}
 use Rattle.receive.specs.Taking.{begunOf}
 use Rattle.accounts.specs.History.{State}

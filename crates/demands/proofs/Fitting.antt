@@ -11,7 +11,7 @@ use Rattle.answers.specs.Answers.{numberOf}
 use Rattle.answers.specs.declared.Answer.{Answer}
 use Rattle.answers.specs.declared.Answer.the-variants.{Accepted, NotAbove, AboveCeiling, NotServed, SizeKnown}
 use Rattle.answers.proofs.Choice.{holds}
-use Rattle.frames.specs.declared.Kind.{Kind}
+use Rattle.kinds.specs.declared.Kind.{Kind}
 use Rattle.frames.specs.Reading.{frameAt}
 use Rattle.records.specs.declared.Record.{Record}
 use Rattle.records.specs.Marks.{soundOf, noneOf}
@@ -23,11 +23,12 @@ use Rattle.entries.specs.declared.Entry.{Entry}
 use Rattle.streams.specs.declared.Called.{Called}
 use Rattle.verdicts.specs.declared.Judged.{Judged}
 use Rattle.streams.specs.declared.Mark.{Mark}
-use Rattle.streams.specs.declared.Space.{Space}
-use Rattle.streams.specs.declared.Space.the-variants.{Initial, Handshake, Application}
+use Rattle.kinds.specs.declared.Space.{Space}
+use Rattle.kinds.specs.declared.Space.the-variants.{Initial, Handshake, Application}
 use Rattle.halves.specs.Stream.{halfOf, ordinalOf, receives, mostStreams}
 use Rattle.entries.specs.Entry.{mostCredit, finalOf, isKnown, entryAt}
-use Rattle.streams.specs.Conn.{isOpen, openedOf, countOf, nextOf, handedOutOf, spaceOf}
+use Rattle.streams.specs.Conn.{isOpen, openedOf, countOf, nextOf, handedOutOf}
+use Rattle.kinds.specs.Kinds.{spaceOf}
 use Rattle.verdicts.specs.Verdict.{settledOf}
 use Rattle.calls.specs.declared.Call.{Call}
 use Rattle.calls.specs.declared.Call.the-variants.{RaiseCredit, RaiseStream, RaiseCount, OpenNext}
@@ -49,8 +50,10 @@ use Rattle.steps.specs.Step.{requestAt}
 use Rattle.packets.specs.Begin as begin
 use Rattle.endings.specs.Finish.{finishOf}
 use Rattle.steps.specs.Gate.{gateOf}
-use Rattle.walks.specs.Walk.{decidedAt, steppedAt, Walked, walkFrom}
-use Rattle.receive.specs.Taking.{gateAt, tookFrameOf, begunOf, tookOf}
+use Rattle.walks.specs.Walk.{Walked, walkFrom}
+use Rattle.single.specs.Single.{decidedAt, steppedAt}
+use Rattle.receive.specs.Taking.{begunOf, tookOf}
+use Rattle.single.specs.Single.{gateAt, tookFrameOf}
 use Rattle.local.specs.Calling.{callPlace, calledAt}
 use Rattle.accounts.specs.History.{State}
 use Rattle.demands.specs.Hosts.{Act, answered, recordsAfter}

@@ -27,7 +27,7 @@ use Rattle.fields.specs.declared.Fields.the-variants as Fields'
 use Rattle.fields.specs.declared.Head.{Head}
 use Rattle.fields.specs.declared.Head.the-variants as Head'
 use Rattle.frames.specs.declared.Frame.{Frame}
-use Rattle.frames.specs.declared.Kind.{Kind}
+use Rattle.kinds.specs.declared.Kind.{Kind}
 use Rattle.frames.specs.declared.Reading.{Reading}
 use Rattle.frames.specs.declared.Reading.the-variants.{Got, Refused}
 use Rattle.frames.specs.Admission.{admitted}
@@ -54,8 +54,8 @@ use Rattle.steps.specs.declared.Shown.the-variants as Shown'
 use Rattle.steps.specs.declared.TookFrame.{TookFrame}
 use Rattle.steps.specs.Gate.{gateOf}
 use Rattle.steps.specs.Step.{requestOf, requestAt, decidedOf, shownOf, shownAt}
-use Rattle.walks.specs.Walk.{decidedAt}
-use Rattle.receive.specs.Taking.{gateAt, tookFrameOf, frameTable}
+use Rattle.single.specs.Single.{decidedAt}
+use Rattle.single.specs.Single.{gateAt, tookFrameOf, frameTable}
 use Rattle.accounts.specs.History.{State, ruledOf, answerOf, after, connAfter, entryAfter}
 use Rattle.accounts.specs.History.Event.{Got as Heard}
 use Rattle.accounts.proofs.Fits.{Fits, fits-test}

@@ -18,7 +18,7 @@ use Rattle.answers.specs.declared.Answer.the-variants.{Accepted, AboveCeiling, 
 use Rattle.answers.proofs.Accepts.{accepts-true}
 use Rattle.answers.proofs.Choice.{holds}
 use Rattle.answers.proofs.Distinct.{impossible}
-use Rattle.frames.specs.declared.Kind.{Kind}
+use Rattle.kinds.specs.declared.Kind.{Kind}
 use Rattle.frames.specs.declared.Reading.{Reading}
 use Rattle.frames.specs.Reading.{frameAt}
 use Rattle.halves.specs.Stream.{placeOf}
@@ -27,7 +27,7 @@ use Rattle.streams.specs.declared.Conn.{Conn}
 use Rattle.entries.specs.declared.Entry.{Entry}
 use Rattle.streams.specs.declared.Limits.{Limits}
 use Rattle.streams.specs.declared.Mark.the-variants.{Open}
-use Rattle.streams.specs.declared.Space.{Space}
+use Rattle.kinds.specs.declared.Space.{Space}
 use Rattle.opening.specs.declared.Opened.{Opened}
 use Rattle.entries.specs.Entry.{mostCredit, fresh, entryAt, entryOf}
 use Rattle.streams.specs.Conn.{isOpen, initialOf, nextOf, handedOutOf, limitsFit}
@@ -40,8 +40,9 @@ use Rattle.calls.specs.Calls.{replyOf, ruledOf as ruledCall, repliedOf}
 use Rattle.limits.specs.Fits.{fits}
 use Rattle.spaces.specs.declared.Records.{Records}
 use Rattle.steps.specs.Step.{requestOf}
-use Rattle.local.specs.Table.{filledTo, openedTable}
-use Rattle.receive.specs.Taking.{gateAt, begunOf}
+use Rattle.tables.specs.Opened.{filledTo, openedTable}
+use Rattle.receive.specs.Taking.{begunOf}
+use Rattle.single.specs.Single.{gateAt}
 use Rattle.local.specs.Calling.{callPlace, calledAt, calledTable}
 use Rattle.accounts.specs.History.{Event, ruledOf, connAfter, entryAfter, State, answerOf, after, opened, WasOpened, stateOf, AllAccepted}
 use Rattle.accounts.specs.History.Event.{Got as Heard, Did, Gave}

@@ -15,13 +15,14 @@ use Rattle.answers.specs.declared.Answer.the-variants.{Accepted, ProtocolViolat
 use Rattle.answers.proofs.Accepts.{accepts-true}
 use Rattle.answers.proofs.Choice.{holds}
 use Rattle.answers.proofs.Distinct.{impossible}
-use Rattle.frames.specs.declared.Kind.{Kind}
-use Rattle.frames.specs.declared.Kind.the-variants.{OneRtt}
+use Rattle.kinds.specs.declared.Kind.{Kind}
+use Rattle.kinds.specs.declared.Kind.the-variants.{OneRtt}
 use Rattle.frames.specs.Reading.{frameAt}
 use Rattle.entries.specs.declared.Entry.{Entry}
 use Rattle.streams.specs.declared.Conn.{Conn}
 use Rattle.streams.specs.declared.Mark.the-variants.{Code}
-use Rattle.streams.specs.Conn.{isOpen, markedAs, spaceOf}
+use Rattle.streams.specs.Conn.{isOpen, markedAs}
+use Rattle.kinds.specs.Kinds.{spaceOf}
 use Rattle.views.specs.declared.View.{View}
 use Rattle.limits.specs.Fits.{fits}
 use Rattle.spaces.specs.declared.Records.{Records}
@@ -33,8 +34,10 @@ use Rattle.steps.specs.declared.TookFrame.{TookFrame}
 use Rattle.steps.specs.Step.{requestAt}
 use Rattle.endings.specs.declared.Took.{Took}
 use Rattle.endings.specs.Finish.{tookAs, finishOf}
-use Rattle.walks.specs.Walk.{decidedAt, steppedAt, stepTable, stopped, Walked, walkFrom, walkAll}
-use Rattle.receive.specs.Taking.{tookFrameOf, begunOf, tookOf, tookTable}
+use Rattle.walks.specs.Walk.{stopped, Walked, walkFrom, walkAll}
+use Rattle.single.specs.Single.{decidedAt, steppedAt, stepTable}
+use Rattle.receive.specs.Taking.{begunOf, tookOf, tookTable}
+use Rattle.single.specs.Single.{tookFrameOf}
 use Rattle.accounts.specs.History.{Event, State}
 use Rattle.accounts.specs.History.Event.{Got as Heard}
 use Rattle.accounts.proofs.Fits.{Fits, fits-facts}

@@ -18,8 +18,8 @@ use Rattle.answers.proofs.Choice.{holds}
 use Rattle.answers.proofs.Distinct.{impossible}
 use Rattle.frames.specs.declared.Frame.{Frame}
 use Rattle.frames.specs.declared.Frame.the-variants.{Stream, ResetStream}
-use Rattle.frames.specs.declared.Kind.{Kind}
-use Rattle.frames.specs.declared.Kind.the-variants.{OneRtt}
+use Rattle.kinds.specs.declared.Kind.{Kind}
+use Rattle.kinds.specs.declared.Kind.the-variants.{OneRtt}
 use Rattle.frames.specs.declared.Reading.{Reading}
 use Rattle.frames.specs.declared.Reading.the-variants.{Got}
 use Rattle.frames.specs.Reading.{frameAt}
@@ -30,7 +30,7 @@ use Rattle.streams.specs.declared.Called.{Called}
 use Rattle.streams.specs.declared.Conn.{Conn}
 use Rattle.streams.specs.declared.Limits.{Limits}
 use Rattle.streams.specs.declared.Mark.the-variants.{Open, Code}
-use Rattle.streams.specs.declared.Space.{Space}
+use Rattle.kinds.specs.declared.Space.{Space}
 use Rattle.halves.specs.Stream.{halfOf}
 use Rattle.entries.specs.Entry.{mostCredit, entryAt, entryOf, finalOf}
 use Rattle.streams.specs.Conn.{isOpen, openedOf, countOf, nextOf, handedOutOf}

@@ -12,7 +12,7 @@ use Rattle.answers.specs.declared.Answer.{Answer}
 use Rattle.answers.specs.declared.Answer.the-variants.{Accepted, ProtocolViolation, Closed, NoPacket, DoesNotFit, NoSuchNumber}
 use Rattle.answers.proofs.Choice.{holds}
 use Rattle.wire.specs.Number.{bigEndian}
-use Rattle.frames.specs.declared.Kind.{Kind}
+use Rattle.kinds.specs.declared.Kind.{Kind}
 use Rattle.numbers.specs.Numbers.{bytesIn, windowOf, nearestOf, recoveredOf}
 use Rattle.numbers.specs.declared.Recovered.{Recovered}
 use Rattle.numbers.specs.declared.Recovered.the-variants as Recovered'
@@ -22,9 +22,10 @@ use Rattle.records.specs.Marks.{soundOf, testOf, checkOf}
 use Rattle.records.specs.Ring.{takenOf}
 use Rattle.records.proofs.Taking.{take-new, added}
 use Rattle.streams.specs.declared.Conn.{Conn}
-use Rattle.streams.specs.declared.Space.{Space}
-use Rattle.streams.specs.declared.Space.the-variants.{Initial, Handshake, Application}
-use Rattle.streams.specs.Conn.{isOpen, spaceOf}
+use Rattle.kinds.specs.declared.Space.{Space}
+use Rattle.kinds.specs.declared.Space.the-variants.{Initial, Handshake, Application}
+use Rattle.streams.specs.Conn.{isOpen}
+use Rattle.kinds.specs.Kinds.{spaceOf}
 use Rattle.limits.specs.Fits.{fits}
 use Rattle.answers.specs.Answers.{accepts}
 use Rattle.answers.proofs.Accepts.{accepts-true}

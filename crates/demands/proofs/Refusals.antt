@@ -21,7 +21,7 @@ use Rattle.wire.specs.declared.Wrote.the-variants as Wrote'
 use Rattle.wire.proofs.Forms as forms
 use Rattle.wire.proofs.Writing as writing
 use Rattle.row.specs.Row.{rowDraft}
-use Rattle.frames.specs.declared.Kind.{Kind}
+use Rattle.kinds.specs.declared.Kind.{Kind}
 use Rattle.frames.specs.Reading.{frameAt}
 use Rattle.contents.specs.Content.{contents}
 use Rattle.sizes.specs.Spelled.{frameDraft}
@@ -33,9 +33,10 @@ use Rattle.streams.specs.declared.Called.{Called}
 use Rattle.streams.specs.declared.Conn.{Conn}
 use Rattle.entries.specs.declared.Entry.{Entry}
 use Rattle.streams.specs.declared.Limits.{Limits}
-use Rattle.streams.specs.declared.Space.{Space}
+use Rattle.kinds.specs.declared.Space.{Space}
 use Rattle.entries.specs.Entry.{entryAt, mostCredit}
-use Rattle.streams.specs.Conn.{isOpen, nextOf, handedOutOf, spaceOf}
+use Rattle.streams.specs.Conn.{isOpen, nextOf, handedOutOf}
+use Rattle.kinds.specs.Kinds.{spaceOf}
 use Rattle.opening.specs.Opening.{openingWhen, entriesOf}
 use Rattle.calls.specs.declared.Call.{Call}
 use Rattle.calls.specs.declared.Replied.{Replied}
@@ -45,9 +46,10 @@ use Rattle.limits.specs.Fits.{fits}
 use Rattle.spaces.specs.declared.Records.{Records}
 use Rattle.spaces.specs.Spaces.{recordedOf}
 use Rattle.steps.specs.declared.TookFrame.{TookFrame}
-use Rattle.local.specs.Table.{filledTo, openedTable}
+use Rattle.tables.specs.Opened.{filledTo, openedTable}
 use Rattle.local.specs.Calling.{callPlace, calledAt, calledTable}
-use Rattle.receive.specs.Taking.{gateAt, begunOf}
+use Rattle.receive.specs.Taking.{begunOf}
+use Rattle.single.specs.Single.{gateAt}
 use Rattle.accounts.specs.History.{State}
 use Rattle.accounts.proofs.Tests.{not-both}
 use Rattle.demands.specs.Hosts.{answered, acted, withConn, withBoth, placeTold, kept}

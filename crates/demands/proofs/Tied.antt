@@ -23,14 +23,15 @@ use Rattle.opening.specs.declared.Opened.{Opened}
 use Rattle.opening.specs.Opening.{openingWhen}
 use Rattle.steps.specs.declared.TookFrame.{TookFrame}
 use Rattle.endings.specs.declared.Took.{Took}
-use Rattle.local.specs.Table.{openedTable}
+use Rattle.tables.specs.Opened.{openedTable}
 use Rattle.local.specs.Calling.{calledAt, calledTable}
-use Rattle.receive.specs.Taking.{tookFrameOf, frameTable, tookOf, tookTable}
-use Rattle.local.proofs.open as opening
+use Rattle.receive.specs.Taking.{tookOf, tookTable}
+use Rattle.single.specs.Single.{tookFrameOf, frameTable}
+use Rattle.tables.proofs.open as opening
 use Rattle.local.proofs.call as calling
 use Rattle.local.proofs.hand_out.Kinds as hand-out
 use Rattle.local.proofs.hand_out.Reads as hand-out-reads
-use Rattle.receive.proofs.take_frame as take-frame
+use Rattle.single.proofs.take_frame as take-frame
 use Rattle.receive.proofs.take_packet as take-packet
 use Rattle.demands.specs.Hosts.{answered, acted, withBoth, recordsAfter, placeTold, numberGiven, hosted}
 use Rattle.demands.specs.Hosts.Act.{TakeFrame, TakePacket, Make, HandOut}
@@ -43,7 +44,7 @@ pub record Ties {M : Type 1} (𝓤 : URA M) (T : Ended) (c : Clauses 𝓤 T) (Do
   pub does : (κs : Lfts (T .signature .lifetimes)) (a : Args (T .signature) κs) (x : Res (T .signature) κs) (s : AtExit T κs) → told κs a x s → Does κs a x s
 
 module _ {M : Type 1} (𝓤 : URA M) (H : Heap 𝓤) (A : Atoms 𝓤) (mem : Memory → SProp 𝓤) (run : Routine → Fun 𝓤) where
-  -- receive::take_frame(c, t, s, at, kind)
+  -- single::take_frame(c, t, s, at, kind)
   abbrev pub TookAFrame : Told take-frame.ended
   TookAFrame κs a x e =
       let h = withBoth (a .0) (now (a .1 .0)) in
@@ -75,7 +76,7 @@ module _ {M : Type 1} (𝓤 : URA M) (H : Heap 𝓤) (A : Atoms 𝓤) (mem : Mem
     does = λ κs a x e p. (ap (λ (y : Took). y .answer) (p .0), ap (λ (y : Took). y .place) (p .0), ap (λ (y : Took). y .records) (p .0), λ j. withBoth (p .0 j .conn) (p .1 j));
   }
 
-  -- local::open(t, limits)
+  -- tables::open(t, limits)
   abbrev pub WasOpened : Told opening.ended
   WasOpened κs a x e =
       let t = now (a .0) in

@@ -11,7 +11,7 @@ use Rattle.ranges.specs.declared.Step.{Step}
 use Rattle.ranges.specs.declared.Step.the-variants.{Next, End}
 use Rattle.frames.specs.Admission.{admitted}
 use Rattle.frames.specs.Reading.{frameAt}
-use Rattle.frames.specs.declared.Kind.{Kind}
+use Rattle.kinds.specs.declared.Kind.{Kind}
 use Rattle.frames.specs.declared.Frame.the-variants.{Ack}
 use Rattle.frames.specs.declared.Reading.the-variants.{Got}
 use Rattle.records.specs.declared.Record.{Record}

@@ -25,7 +25,7 @@ use Rattle.streams.specs.declared.Limits.{Limits}
 use Rattle.streams.specs.declared.Mark.the-variants.{Code}
 use Rattle.streams.specs.Conn.{markedAs}
 use Rattle.opening.specs.Opening.{openingWhen}
-use Rattle.local.specs.Table.{openedTable}
+use Rattle.tables.specs.Opened.{openedTable}
 use Rattle.accounts.specs.History.{State}
 use Rattle.demands.specs.Hosts.{Act, answered, acted, withConn, recordsAfter, placeTold, kept}
 use Rattle.demands.specs.Hosts.Act.{TakeFrame, TakePacket, Make, HandOut}

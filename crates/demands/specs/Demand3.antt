@@ -6,14 +6,14 @@ use mathlib.Core.Bool.{Bool, true, false}
 use mathlib.Core.List.{List}
 use Rattle.answers.specs.Answers.{accepts}
 use Rattle.answers.specs.declared.Answer.the-variants.{DoesNotFit}
-use Rattle.frames.specs.declared.Kind.{Kind}
+use Rattle.kinds.specs.declared.Kind.{Kind}
 use Rattle.frames.specs.declared.Frame.the-variants.{Stream, ResetStream}
 use Rattle.frames.specs.declared.Reading.the-variants.{Got}
 use Rattle.frames.specs.Reading.{frameAt}
 use Rattle.entries.specs.declared.Entry.{Entry}
 use Rattle.streams.specs.declared.Limits.{Limits}
 use Rattle.streams.specs.declared.Mark.the-variants.{Open}
-use Rattle.streams.specs.declared.Space.{Space}
+use Rattle.kinds.specs.declared.Space.{Space}
 use Rattle.halves.specs.Stream.{halfOf, listed}
 use Rattle.entries.specs.Entry.{finalOf, entryOf}
 use Rattle.streams.specs.Conn.{openedOf, countOf, nextOf}

@@ -8,7 +8,7 @@ use Rattle.answers.specs.Choice.{_⇒_∣_}
 use Rattle.answers.specs.Answers.{accepts}
 use Rattle.answers.specs.declared.Answer.{Answer}
 use Rattle.answers.specs.declared.Answer.the-variants.{Accepted}
-use Rattle.frames.specs.declared.Kind.{Kind}
+use Rattle.kinds.specs.declared.Kind.{Kind}
 use Rattle.frames.specs.declared.Frame.{Frame}
 use Rattle.frames.specs.declared.Reading.{Reading}
 use Rattle.frames.specs.declared.Reading.the-variants.{Got, Refused}
@@ -22,7 +22,8 @@ use Rattle.packets.specs.declared.Begun.{Begun}
 use Rattle.spaces.specs.declared.Records.{Records}
 use Rattle.steps.specs.declared.Shown.{Shown}
 use Rattle.steps.specs.declared.Shown.the-variants as Shown'
-use Rattle.receive.specs.Taking.{tookFrameOf, begunOf}
+use Rattle.receive.specs.Taking.{begunOf}
+use Rattle.single.specs.Single.{tookFrameOf}
 use Rattle.accounts.specs.History.{Event, State}
 use Rattle.accounts.specs.History.Event.{Got as Heard, Did, Gave}
 use Rattle.demands.specs.Hosts.{Act, answered, acted, hosted}

@@ -6,17 +6,18 @@ use mathlib.Core.List.{List, [], _∷_}
 use lib.ListN.{length}
 use Rattle.answers.specs.declared.Answer.{Answer}
 use Rattle.answers.specs.declared.Answer.the-variants.{Accepted}
-use Rattle.frames.specs.declared.Kind.{Kind}
+use Rattle.kinds.specs.declared.Kind.{Kind}
 use Rattle.streams.specs.declared.Conn.{Conn}
 use Rattle.entries.specs.declared.Entry.{Entry}
 use Rattle.streams.specs.declared.Limits.{Limits}
-use Rattle.streams.specs.declared.Space.{Space}
+use Rattle.kinds.specs.declared.Space.{Space}
 use Rattle.streams.specs.Conn.{handedOutOf}
 use Rattle.calls.specs.declared.Call.{Call}
 use Rattle.spaces.specs.declared.Records.{Records}
 use Rattle.opening.specs.Opening.{openingWhen}
-use Rattle.local.specs.Table.{openedTable}
-use Rattle.receive.specs.Taking.{tookFrameOf, frameTable, tookOf, tookTable}
+use Rattle.tables.specs.Opened.{openedTable}
+use Rattle.receive.specs.Taking.{tookOf, tookTable}
+use Rattle.single.specs.Single.{tookFrameOf, frameTable}
 use Rattle.local.specs.Calling.{calledAt, calledTable}
 use Rattle.accounts.specs.History.{State}
 

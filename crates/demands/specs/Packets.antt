@@ -7,11 +7,11 @@ use mathlib.Core.List.{List, [], _∷_, _++_}
 use lib.ListN.{length}
 use Rattle.answers.specs.Choice.{_⇒_∣_}
 use Rattle.answers.specs.Answers.{accepts}
-use Rattle.frames.specs.declared.Kind.{Kind}
+use Rattle.kinds.specs.declared.Kind.{Kind}
 use Rattle.frames.specs.declared.Frame.{Frame}
 use Rattle.frames.specs.declared.Reading.the-variants.{Got}
 use Rattle.frames.specs.Reading.{frameAt}
-use Rattle.streams.specs.Conn.{spaceOf}
+use Rattle.kinds.specs.Kinds.{spaceOf}
 use Rattle.entries.specs.declared.Entry.{Entry}
 use Rattle.streams.specs.declared.Limits.{Limits}
 use Rattle.streams.specs.declared.Mark.the-variants.{Open}

@@ -6,8 +6,8 @@ use mathlib.Core.List.{List}
 use lib.Dec.{leb, eqb}
 use Rattle.answers.specs.declared.Answer.the-variants.{Accepted}
 use Rattle.records.specs.Marks.{recorded}
-use Rattle.streams.specs.declared.Space.{Space}
-use Rattle.streams.specs.Conn.{spaceOf}
+use Rattle.kinds.specs.declared.Space.{Space}
+use Rattle.kinds.specs.Kinds.{spaceOf}
 use Rattle.spaces.specs.declared.Records.{Records}
 use Rattle.spaces.specs.Spaces.{recordOf}
 use Rattle.receive.specs.Taking.{begunOf}

@@ -2,7 +2,7 @@
 use Rattle.answers.specs.Choice.{_⇒_∣_}
 use Rattle.answers.specs.declared.Answer.{Answer}
 use Rattle.answers.specs.declared.Answer.the-variants.{Accepted}
-use Rattle.streams.specs.Conn.{spaceOf}
+use Rattle.kinds.specs.Kinds.{spaceOf}
 use Rattle.answers.specs.Answers.{accepts}
 use Rattle.spaces.specs.Spaces.{recordedOf}
 use Rattle.packets.specs.declared.Begun.{Begun}

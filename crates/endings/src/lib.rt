@@ -1,4 +1,4 @@
-// A packet after its frames (document 01, "Taking a packet"): its answer, and its number recorded if no frame was refused.
+// A packet after its frames (docs/RULES.md, "Taking a packet"): its answer, and its number recorded if no frame was refused.
 ghost use mathlib.Core.Path.{_≡_};
 ghost use Rattle.endings.specs.Finish.{finishOf};
 use answers::Answer;

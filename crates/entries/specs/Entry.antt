@@ -1,4 +1,4 @@
--- An entry of the stream table, document 01: "An entry holds credit, furthest end, and final size if known".
+-- An entry of the stream table, docs/RULES.md, "Streams and credit": "An entry holds credit, furthest end, and final size if known".
 use Prim.Native.Nat.{ℕ, _-_, _^_, max}
 use mathlib.Core.Bool.{Bool, true, false}
 use mathlib.Core.List.{List}

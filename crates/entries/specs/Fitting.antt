@@ -1,4 +1,4 @@
--- When an entry fits by itself, document 01, "120 for the table".
+-- When an entry fits by itself, docs/RULES.md, "120 for the table".
 use Prim.Native.Nat.{ℕ}
 use mathlib.Core.Bool.{Bool, true, not, _&&_, _||_}
 use lib.Dec.{ltb, leb, eqb}

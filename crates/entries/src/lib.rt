@@ -1,4 +1,4 @@
-// An entry of the stream table (document 01, "Streams and credit"): credit, furthest end and final size, and whether it fits by
+// An entry of the stream table (docs/RULES.md, "Streams and credit"): credit, furthest end and final size, and whether it fits by
 // itself. What a frame or a local call may do to it is said by the crates above.
 ghost use mathlib.Core.Path.{_≡_};
 ghost use Rattle.entries.specs.Entry.{finalOf};

@@ -1,4 +1,4 @@
--- The fields that no frame may have, document 01, "Fields that give 7"; an ACK's runs are judged where they are read.
+-- The fields that no frame may have, docs/RULES.md, "Fields that give 7"; an ACK's runs are judged where they are read.
 use Prim.Native.Nat.{ℕ, _+_, _-_, _/_, _^_}
 use mathlib.Core.Bool.{Bool, true, false}
 use lib.Dec.{ltb, eqb}

@@ -1,4 +1,4 @@
--- The type of a frame, document 01, "For a frame": readable (7), shortest (10), known (7).
+-- The type of a frame, docs/RULES.md, "For a frame": readable (7), shortest (10), known (7).
 use Prim.Native.Nat.{ℕ}
 use mathlib.Core.Bool.{not}
 use mathlib.Core.List.{List}

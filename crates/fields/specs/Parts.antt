@@ -1,4 +1,4 @@
--- The fields of a frame of a known type: what stands there by its layout, unless it is one of document 01's "Fields that give 7".
+-- The fields of a frame of a known type: what stands there by its layout, unless it is one of docs/RULES.md, "Fields that give 7".
 use Prim.Native.Nat.{ℕ}
 use mathlib.Core.List.{List}
 use Rattle.answers.specs.Choice.{_⇒_∣_}

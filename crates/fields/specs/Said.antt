@@ -1,4 +1,4 @@
--- What a frame's type and its fields say: 0 and the place after them, or the number that refuses them; a type is told also where it is refused, 0 if none was read, and fields that cannot be read or have a fault are 7. (Document 01: "When an answer is an enum, the promises use a definition that gives this paper's number and values for each of the enum's cases".)
+-- What a frame's type and its fields say: 0 and the place after them, or the number that refuses them; a type is told also where it is refused, 0 if none was read, and fields that cannot be read or have a fault are 7. (docs/RULES.md, "How firm each statement is".)
 use Prim.Native.Nat.{ℕ}
 use mathlib.Core.List.{List, [], _∷_}
 use Rattle.answers.specs.Answers.{Said, accepting, refusing}

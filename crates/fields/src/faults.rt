@@ -1,4 +1,4 @@
-// The fields that no frame may have (document 01, "Fields that give 7").
+// The fields that no frame may have (docs/RULES.md, "Fields that give 7").
 ghost use mathlib.Core.Path.{_≡_};
 ghost use Rattle.fields.specs.Faults.{aboveOf, misissuedOf, faultOf};
 use layouts::types;

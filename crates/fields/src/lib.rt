@@ -1,4 +1,4 @@
-// The type and the fields of a frame, whatever packet carries it: read, and judged as document 01 says (RFC 9000, 12.4 and 19).
+// The type and the fields of a frame, whatever packet carries it: read, and judged (RFC 9000, 12.4 and 19; docs/RULES.md, "For a frame").
 pub mod faults;
 pub mod heads;
 

@@ -1,12 +1,12 @@
--- Document 01's "For a frame" in its order, and its table of admission, every type in every kind of packet: beside each, its sentence.
+-- docs/RULES.md, "For a frame" in its order, and "Admission", every type in every kind of packet: beside each, its sentence.
 use Prim.Native.Nat.{ℕ}
 use mathlib.Core.Path.{_≡_}
 use mathlib.Core.Bool.{Bool, true, false}
 use mathlib.Core.List.{List, [], _∷_, _++_, map}
 use lib.ListN.{replicate}
 use Rattle.answers.specs.declared.Answer.the-variants.{FrameEncoding, ProtocolViolation}
-use Rattle.frames.specs.declared.Kind.{Kind}
-use Rattle.frames.specs.declared.Kind.the-variants.{Initial, Handshake, ZeroRtt, OneRtt}
+use Rattle.kinds.specs.declared.Kind.{Kind}
+use Rattle.kinds.specs.declared.Kind.the-variants.{Initial, Handshake, ZeroRtt, OneRtt}
 use Rattle.frames.specs.declared.Frame.the-variants.{Ping}
 use Rattle.frames.specs.declared.Reading.the-variants.{Got, Refused}
 use Rattle.frames.specs.Admission.{admitted}

@@ -1,4 +1,4 @@
--- Document 01's "Fields that give 7" at their borders, each from both sides, and fields that are cut short, one of each form: beside each, its sentence.
+-- docs/RULES.md, "Fields that give 7", at their borders, each from both sides, and fields that are cut short, one of each form: beside each, its sentence.
 use Prim.Native.Nat.{ℕ, _-_, _^_, _+_}
 use mathlib.Core.Path.{_≡_}
 use mathlib.Core.Bool.{true, false}

@@ -16,7 +16,7 @@ use Rattle.frames.specs.Fields.{fieldsAt}
 use Rattle.frames.specs.Admission.{admitted}
 use Rattle.fields.specs.Heads.{headAt}
 use Rattle.frames.specs.Reading.{admittedHead, frameAt}
-use Rattle.frames.specs.declared.Kind.{Kind}
+use Rattle.kinds.specs.declared.Kind.{Kind}
 use Rattle.fields.specs.declared.Head.{Head}
 use Rattle.fields.specs.declared.Head.the-variants as Head'
 use Rattle.frames.specs.declared.Reading.{Reading}

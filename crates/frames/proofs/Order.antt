@@ -1,4 +1,4 @@
--- The order of document 01, "For a frame": each test decides where those before it passed, whatever comes after it.
+-- The order of docs/RULES.md, "For a frame": each test decides where those before it passed, whatever comes after it.
 -- Assumes nothing.
 use mathlib.Core.Path.{_≡_, refl, _∙_, ap}
 use mathlib.Core.Bool.{true, false, not}
@@ -20,7 +20,7 @@ use Rattle.fields.specs.Parts.{endedAt, partsAt}
 use Rattle.frames.specs.Fields.{frameOf, fieldsAt}
 use Rattle.fields.specs.Heads.{headAt}
 use Rattle.frames.specs.Reading.{withHead, admittedHead, frameAt, anyFrameAt}
-use Rattle.frames.specs.declared.Kind.{Kind}
+use Rattle.kinds.specs.declared.Kind.{Kind}
 use Rattle.frames.specs.declared.Frame.the-variants.{Padding}
 use Rattle.fields.specs.declared.Head.{Head}
 use Rattle.fields.specs.declared.Head.the-variants as Head'

@@ -24,7 +24,7 @@ use Rattle.frames.specs.Admission.{admitted}
 use Rattle.fields.specs.Heads.{headAt}
 use Rattle.frames.specs.Reading.{withHead, admittedHead, frameAt, anyFrameAt}
 use Rattle.frames.specs.Sound.{Lies, FieldsRead}
-use Rattle.frames.specs.declared.Kind.{Kind}
+use Rattle.kinds.specs.declared.Kind.{Kind}
 use Rattle.frames.specs.declared.Frame.{Frame}
 use Rattle.fields.specs.declared.Head.{Head}
 use Rattle.fields.specs.declared.Head.the-variants as Head'

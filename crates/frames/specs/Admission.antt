@@ -1,10 +1,10 @@
--- Which frames a packet may carry to a server, RFC 9000 Table 3 with document 01's words: the one place where admission is ruled.
+-- Which frames a packet may carry to a server, RFC 9000 Table 3 in the words of docs/RULES.md, "Admission": the one place where admission is ruled.
 use Prim.Native.Nat.{ℕ}
 use mathlib.Core.Bool.{Bool, true, false}
 use lib.Dec.{eqb}
 use Rattle.answers.specs.Choice.{_⇒_∣_}
-use Rattle.frames.specs.declared.Kind.{Kind}
-use Rattle.frames.specs.declared.Kind.the-variants.{Initial, Handshake, ZeroRtt, OneRtt}
+use Rattle.kinds.specs.declared.Kind.{Kind}
+use Rattle.kinds.specs.declared.Kind.the-variants.{Initial, Handshake, ZeroRtt, OneRtt}
 
 -- in all kinds but 0-RTT
 abbrev pub exceptEarly : Kind → Bool

@@ -1,4 +1,4 @@
--- One frame at a place of a payload, document 01, "For a frame": type readable (7), shortest (10), known (7), admitted in this packet kind (10), fields (7).
+-- One frame at a place of a payload, docs/RULES.md, "For a frame": type readable (7), shortest (10), known (7), admitted in this packet kind (10), fields (7).
 use Prim.Native.Nat.{ℕ}
 use mathlib.Core.Bool.{not}
 use mathlib.Core.List.{List}
@@ -9,7 +9,7 @@ use Rattle.fields.specs.declared.Head.{Head}
 use Rattle.fields.specs.declared.Head.the-variants as Head'
 use Rattle.frames.specs.Admission.{admitted}
 use Rattle.frames.specs.Fields.{fieldsAt}
-use Rattle.frames.specs.declared.Kind.{Kind}
+use Rattle.kinds.specs.declared.Kind.{Kind}
 use Rattle.frames.specs.declared.Reading.{Reading}
 use Rattle.frames.specs.declared.Reading.the-variants.{Refused}
 

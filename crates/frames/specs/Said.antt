@@ -1,4 +1,4 @@
--- What reading a frame says: 0, its type, the frame and the place after it; or the number that refuses it, and its type, 0 if none was read. (Document 01: "When an answer is an enum, the promises use a definition that gives this paper's number and values for each of the enum's cases".)
+-- What reading a frame says: 0, its type, the frame and the place after it; or the number that refuses it, and its type, 0 if none was read. (docs/RULES.md, "How firm each statement is".)
 use Prim.Native.Nat.{ℕ}
 use mathlib.Core.List.{List, [], _∷_}
 use Rattle.answers.specs.Answers.{Said, accepting, refusing}

@@ -1,7 +1,7 @@
 // Which frames a packet of a kind may carry to a server (RFC 9000, 12.4, Table 3).
 ghost use mathlib.Core.Path.{_≡_};
 ghost use Rattle.frames.specs.Admission.{exceptEarly, onlyOneRtt, earlyOrOneRtt, admitted};
-use crate::Kind;
+use kinds::Kind;
 use layouts::types;
 
 fn except_early(kind: Kind) -> bool

@@ -1,4 +1,4 @@
-// Frames (RFC 9000, 12.4 and 19): one frame read at a place of a payload, in the order of document 01.
+// Frames (RFC 9000, 12.4 and 19): one frame read at a place of a payload, in the order of docs/RULES.md, "For a frame".
 mod admission;
 mod assembly;
 
@@ -9,14 +9,7 @@ use answers::Answer;
 use fields::Fields;
 use fields::Head;
 use fields::heads;
-
-// The kinds of packet that carry frames.
-pub enum Kind {
-    Initial,
-    Handshake,
-    ZeroRtt,
-    OneRtt,
-}
+use kinds::Kind;
 
 // A frame. Numbers have the names of section 19, in short. Bytes are places in the slice that the frame was read
 // from: `at` and `len`, or `at` alone for PATH data (8 bytes), `token` for a reset token (16 bytes), and `at` for

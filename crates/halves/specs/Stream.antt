@@ -1,4 +1,4 @@
--- Streams by their halves, RFC 9000 2.1: who opens them, and who may send on them. Halves by number: 0 the peer's two-way, 1 our two-way, 2 the peer's one-way, 3 our one-way. Document 01: "Type is ID mod 4, ordinal ID div 4".
+-- Streams by their halves, RFC 9000 2.1: who opens them, and who may send on them. Halves by number: 0 the peer's two-way, 1 our two-way, 2 the peer's one-way, 3 our one-way. docs/RULES.md, "Streams and credit": "Type is ID mod 4, ordinal ID div 4".
 use Prim.Native.Nat.{ℕ, _+_, _*_, _/_, _%_, _^_}
 use mathlib.Core.Bool.{Bool, not, _&&_, _||_}
 use lib.Dec.{ltb, eqb}

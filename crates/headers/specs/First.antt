@@ -1,9 +1,9 @@
--- What the plain first byte of a packet tells, RFC 9000 17.2 and 17.3; document 01, "Taking a packet": "the plain first byte (it tells the kind)".
+-- What the plain first byte of a packet tells, RFC 9000 17.2 and 17.3; docs/RULES.md, "Taking a packet": "the plain first byte (it tells the kind)".
 use Prim.Native.Nat.{ℕ, _/_, _%_}
 use mathlib.Core.Bool.{Bool, not}
 use lib.Dec.{eqb}
 use Rattle.answers.specs.Choice.{_⇒_∣_}
-use Rattle.frames.specs.declared.Kind.the-variants.{Initial, Handshake, ZeroRtt, OneRtt}
+use Rattle.kinds.specs.declared.Kind.the-variants.{Initial, Handshake, ZeroRtt, OneRtt}
 use Rattle.numbers.specs.declared.Size.{Size}
 use Rattle.numbers.specs.declared.Size.the-variants.{One, Two, Three, Four}
 use Rattle.headers.specs.declared.Header.{Header}

@@ -4,7 +4,7 @@ ghost use Prim.Native.Nat.{_≤_};
 ghost use Rattle.wire.specs.Number.{plainAt};
 ghost use Rattle.numbers.specs.Numbers.{bytesIn};
 ghost use Rattle.headers.specs.First.{headerOf, sizeIn, reservedOf};
-use frames::Kind;
+use kinds::Kind;
 use numbers::Size;
 use wire::Number;
 

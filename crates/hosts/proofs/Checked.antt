@@ -10,7 +10,7 @@ use lib.Dec.{leb}
 use borrow.Author.Tests.{lt-ltb, le-ltb, le-leb, lt-leb}
 use Rattle.answers.specs.declared.Answer.{Answer}
 use Rattle.answers.specs.declared.Answer.the-variants.{Accepted, ProtocolViolation, NoPacket}
-use Rattle.frames.specs.declared.Kind.{Kind}
+use Rattle.kinds.specs.declared.Kind.{Kind}
 use Rattle.numbers.specs.Numbers.{bytesIn}
 use Rattle.numbers.specs.declared.Recovered.{Recovered}
 use Rattle.numbers.specs.declared.Recovered.the-variants.{Is, Refused}
@@ -20,7 +20,8 @@ use Rattle.headers.specs.First.{headerOf, sizeIn, reservedOf}
 use Rattle.records.specs.declared.Record.{Record}
 use Rattle.records.specs.Marks.{testOf}
 use Rattle.streams.specs.declared.Conn.{Conn}
-use Rattle.streams.specs.Conn.{isOpen, spaceOf}
+use Rattle.streams.specs.Conn.{isOpen}
+use Rattle.kinds.specs.Kinds.{spaceOf}
 use Rattle.spaces.specs.declared.Records.{Records}
 use Rattle.spaces.specs.Spaces.{recordOf, recordsFit}
 use Rattle.packets.specs.declared.Begun.{Begun}

@@ -15,7 +15,7 @@ use Rattle.answers.proofs.Choice.{holds}
 use Rattle.answers.proofs.Accepts.{accepts-true}
 use Rattle.answers.proofs.Distinct.{impossible}
 use Rattle.wire.specs.Number.{bigEndian}
-use Rattle.frames.specs.declared.Kind.{Kind}
+use Rattle.kinds.specs.declared.Kind.{Kind}
 use Rattle.numbers.specs.Numbers.{bytesIn, windowOf, nearestOf, recoveredOf}
 use Rattle.numbers.specs.declared.Size.{Size}
 use Rattle.numbers.specs.declared.Recovered.{Recovered}
@@ -29,9 +29,10 @@ use Rattle.records.specs.Marks.{recorded, testOf, soundOf, Sound}
 use Rattle.records.proofs.Sound.{sound-facts}
 use Rattle.records.proofs.Ring.{rec-in, rec-above}
 use Rattle.streams.specs.declared.Conn.{Conn}
-use Rattle.streams.specs.declared.Space.{Space}
-use Rattle.streams.specs.declared.Space.the-variants.{Initial, Handshake, Application}
-use Rattle.streams.specs.Conn.{isOpen, spaceOf}
+use Rattle.kinds.specs.declared.Space.{Space}
+use Rattle.kinds.specs.declared.Space.the-variants.{Initial, Handshake, Application}
+use Rattle.streams.specs.Conn.{isOpen}
+use Rattle.kinds.specs.Kinds.{spaceOf}
 use Rattle.spaces.specs.declared.Records.{Records}
 use Rattle.spaces.specs.Spaces.{recordOf, recordsFit}
 use Rattle.packets.specs.declared.Begun.{Begun}

@@ -23,8 +23,8 @@ use Rattle.limits.specs.Fits.{openFit, connFits, sumTo, allTo, fits}
 use Rattle.steps.specs.Gate.{gateOf}
 use Rattle.steps.specs.Step.{requestOf, requestAt, decidedOf}
 use Rattle.local.specs.Calling.{calledAt, calledTable}
-use Rattle.walks.specs.Walk.{decidedAt}
-use Rattle.receive.specs.Taking.{tookFrameOf, frameTable}
+use Rattle.single.specs.Single.{decidedAt}
+use Rattle.single.specs.Single.{tookFrameOf, frameTable}
 use Rattle.calls.specs.Calls as calls
 use Rattle.hosts.specs.Leaving.{Leaving}
 

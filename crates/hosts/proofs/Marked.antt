@@ -11,13 +11,13 @@ use Rattle.answers.specs.declared.Answer.{Answer}
 use Rattle.answers.proofs.Choice.{holds}
 use Rattle.answers.proofs.Distinct.{impossible}
 use Rattle.frames.specs.declared.Frame.{Frame}
-use Rattle.frames.specs.declared.Kind.{Kind}
+use Rattle.kinds.specs.declared.Kind.{Kind}
 use Rattle.frames.specs.declared.Reading.{Reading}
 use Rattle.frames.specs.declared.Reading.the-variants.{Got}
 use Rattle.frames.specs.Reading.{frameAt}
 use Rattle.streams.specs.declared.Called.{Called}
 use Rattle.streams.specs.declared.Conn.{Conn}
-use Rattle.streams.specs.declared.Space.{Space}
+use Rattle.kinds.specs.declared.Space.{Space}
 use Rattle.entries.specs.declared.Entry.{Entry}
 use Rattle.entries.specs.Entry.{mostCredit, entryOf}
 use Rattle.streams.specs.Conn.{isOpen, nextOf, handedOutOf}
@@ -31,7 +31,8 @@ use Rattle.calls.specs.declared.Replied.{Replied}
 use Rattle.calls.specs.Calls.{connCalled, replyOf, settledOf, ruledOf, repliedOf}
 use Rattle.limits.specs.Fits.{fits}
 use Rattle.steps.specs.Step.{requestOf}
-use Rattle.receive.specs.Taking.{gateAt, begunOf}
+use Rattle.receive.specs.Taking.{begunOf}
+use Rattle.single.specs.Single.{gateAt}
 use Rattle.local.specs.Calling.{calledAt}
 use Rattle.accounts.specs.History.{State, after, connAfter}
 use Rattle.accounts.specs.History.Event.{Got as Heard}

@@ -13,7 +13,7 @@ use Rattle.answers.specs.declared.Answer.the-variants.{DoesNotFit}
 use Rattle.answers.proofs.Choice.{holds}
 use Rattle.answers.proofs.Distinct.{impossible}
 use Rattle.streams.specs.declared.Mark.{Mark}
-use Rattle.streams.specs.declared.Space.{Space}
+use Rattle.kinds.specs.declared.Space.{Space}
 use Rattle.streams.specs.declared.Called.{Called}
 use Rattle.entries.specs.Entry.{mostCredit}
 use Rattle.streams.specs.Conn.{nextOf, handedOutOf}

@@ -3,7 +3,7 @@
 use mathlib.Core.Path.{refl}
 use Rattle.streams.specs.Conn.{limitsFit}
 use Rattle.opening.specs.Opening.{openingOf, openingWhen, entriesOf}
-use Rattle.local.specs.Table.{filledTo, openedTable}
+use Rattle.tables.specs.Opened.{filledTo, openedTable}
 use Rattle.hosts.specs.Openings.{Openings}
 
 pub openings : Openings

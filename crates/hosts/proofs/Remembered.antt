@@ -12,9 +12,10 @@ use Rattle.answers.proofs.Accepts.{accepts-true}
 use Rattle.records.specs.Ring.{takenOf}
 use Rattle.windows.specs.History.{Holds, recordAfter, takenNumbers}
 use Rattle.windows.proofs.History as windows
-use Rattle.streams.specs.declared.Space.{Space}
-use Rattle.streams.specs.declared.Space.the-variants.{Initial, Handshake, Application}
-use Rattle.streams.specs.Conn.{indexOf, spaceOf}
+use Rattle.kinds.specs.declared.Space.{Space}
+use Rattle.kinds.specs.declared.Space.the-variants.{Initial, Handshake, Application}
+use Rattle.streams.specs.Conn.{indexOf}
+use Rattle.kinds.specs.Kinds.{spaceOf}
 use Rattle.steps.specs.declared.Stopped.{Stopped}
 use Rattle.spaces.specs.declared.Records.{Records}
 use Rattle.spaces.specs.Spaces.{recordOf, recordedOf}

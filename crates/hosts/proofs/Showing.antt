@@ -21,8 +21,8 @@ use Rattle.verdicts.specs.Verdict.{verdictOf, connHeard, entryHeard, settledOf,
 use Rattle.limits.specs.Fits.{openFit, connFits, sumTo, allTo, fits}
 use Rattle.steps.specs.Gate.{gateOf}
 use Rattle.steps.specs.Step.{requestOf, requestAt, decidedOf, shownOf, shownAt}
-use Rattle.walks.specs.Walk.{decidedAt}
-use Rattle.receive.specs.Taking.{tookFrameOf, frameTable}
+use Rattle.single.specs.Single.{decidedAt}
+use Rattle.single.specs.Single.{tookFrameOf, frameTable}
 use Rattle.hosts.specs.Showing.{Showing}
 
 pub showing : Showing

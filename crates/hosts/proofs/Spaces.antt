@@ -28,7 +28,8 @@ use Rattle.spaces.specs.Spaces.{recordsFit, recordedOf}
 use Rattle.packets.specs.Begin.{refusedOf, closesOf, testedOf, inSpaceOf, beginOf}
 use Rattle.steps.specs.Gate.{gateOf}
 use Rattle.steps.specs.Step.{requestOf, requestAt, decidedOf}
-use Rattle.walks.specs.Walk.{decidedAt, walkFrom}
+use Rattle.walks.specs.Walk.{walkFrom}
+use Rattle.single.specs.Single.{decidedAt}
 use Rattle.endings.specs.Finish.{finishOf}
 use Rattle.receive.specs.Taking.{tookOf, tookTable}
 use Rattle.hosts.specs.Spaces.{Spaces}

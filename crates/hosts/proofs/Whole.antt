@@ -10,7 +10,7 @@ use lib.Dec.{leb}
 use borrow.Author.Tests.{not-true, not-false, leb-true}
 use Rattle.answers.specs.Answers.{accepts}
 use Rattle.answers.proofs.Choice.{holds}
-use Rattle.frames.specs.declared.Kind.{Kind}
+use Rattle.kinds.specs.declared.Kind.{Kind}
 use Rattle.frames.proofs.Sound.{sound}
 use Rattle.streams.specs.Conn.{isOpen}
 use Rattle.packets.specs.declared.Begun.{Begun}

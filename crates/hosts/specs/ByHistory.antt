@@ -11,7 +11,7 @@ use Rattle.answers.specs.declared.Answer.the-variants.{Accepted, FlowControl, S
 use Rattle.wire.specs.Number.{numberAt}
 use Rattle.wire.specs.declared.Number.the-variants.{Is, CutShort}
 use Rattle.frames.specs.declared.Frame.{Frame}
-use Rattle.frames.specs.declared.Kind.{Kind}
+use Rattle.kinds.specs.declared.Kind.{Kind}
 use Rattle.frames.specs.declared.Reading.the-variants.{Got, Refused}
 use Rattle.frames.specs.Reading.{frameAt}
 use Rattle.halves.specs.Stream.{streamOf, halfOf, ordinalOf, peers, receives, sends, mostStreams}
@@ -19,7 +19,7 @@ use Rattle.entries.specs.declared.Entry.{Entry}
 use Rattle.entries.specs.Entry.{mostCredit, isKnown}
 use Rattle.streams.specs.declared.Limits.{Limits}
 use Rattle.streams.specs.declared.Mark.the-variants.{Open}
-use Rattle.streams.specs.declared.Space.{Space}
+use Rattle.kinds.specs.declared.Space.{Space}
 use Rattle.streams.specs.Conn.{isOpen}
 use Rattle.views.specs.declared.View.{View}
 use Rattle.views.specs.declared.View.the-variants.{Ends, Blocks, ForSender, Acks, Closes, Nothing}

@@ -1,4 +1,4 @@
--- Document 01, "The order of checks", of every packet on a connection that is open and fits with its records: each check by what it looks at, whatever those after it would find; and a packet that passes them all goes on to its frames.
+-- docs/RULES.md, "Taking a packet": "The order of checks", of every packet on a connection that is open and fits with its records: each check by what it looks at, whatever those after it would find; and a packet that passes them all goes on to its frames.
 use Prim.Native.Nat.{ℕ, _≤_, _<_}
 use mathlib.Core.Path.{_≡_}
 use mathlib.Core.Bool.{true, false}
@@ -9,7 +9,7 @@ use Rattle.answers.specs.declared.Answer.{Answer}
 use Rattle.answers.specs.declared.Answer.the-variants.{Accepted, ProtocolViolation}
 use Rattle.answers.specs.declared.Answer.the-variants as Answer'
 use Rattle.wire.specs.Number.{bigEndian}
-use Rattle.frames.specs.declared.Kind.{Kind}
+use Rattle.kinds.specs.declared.Kind.{Kind}
 use Rattle.numbers.specs.Numbers.{bytesIn, recoveredOf}
 use Rattle.numbers.specs.declared.Recovered.{Recovered}
 use Rattle.numbers.specs.declared.Recovered.the-variants.{Is, Refused}
@@ -18,7 +18,8 @@ use Rattle.headers.specs.First.{headerOf, sizeIn, reservedOf}
 use Rattle.records.specs.declared.Record.{Record}
 use Rattle.records.specs.Marks.{testOf}
 use Rattle.streams.specs.declared.Conn.{Conn}
-use Rattle.streams.specs.Conn.{isOpen, spaceOf}
+use Rattle.streams.specs.Conn.{isOpen}
+use Rattle.kinds.specs.Kinds.{spaceOf}
 use Rattle.spaces.specs.declared.Records.{Records}
 use Rattle.spaces.specs.Spaces.{recordOf, recordsFit}
 use Rattle.packets.specs.Begin.{beginOf}

@@ -1,4 +1,4 @@
--- Document 01, "Packet numbers": "with E one above the largest number recorded (0 if none)". Of every packet that passes the checks before its frames: its number is what its bytes stand for with this E of its own space's record.
+-- docs/RULES.md, "Packet numbers": "with E one above the largest number recorded (0 if none)". Of every packet that passes the checks before its frames: its number is what its bytes stand for with this E of its own space's record.
 use Prim.Native.Nat.{ℕ, _-_, _<_}
 use mathlib.Core.Path.{_≡_}
 use mathlib.Core.Bool.{Bool, true, false}
@@ -13,7 +13,7 @@ use Rattle.headers.specs.First.{headerOf, sizeIn}
 use Rattle.records.specs.declared.Record.{Record}
 use Rattle.records.specs.Marks.{recorded, testOf}
 use Rattle.streams.specs.declared.Conn.{Conn}
-use Rattle.streams.specs.Conn.{spaceOf}
+use Rattle.kinds.specs.Kinds.{spaceOf}
 use Rattle.spaces.specs.declared.Records.{Records}
 use Rattle.spaces.specs.Spaces.{recordOf}
 use Rattle.packets.specs.declared.Begun.{Begun}

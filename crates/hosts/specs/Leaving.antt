@@ -1,14 +1,14 @@
--- What the calls leave of the host, its whole table with it: each frame that names a stream at a stream of each type, each local call accepted and refused, and numbers handed out. The rules themselves are held to the document on a connection and one entry (crate accounts); here it is seen that the one entry is that of the stream, and that all others stay.
+-- What the calls leave of the host, its whole table with it: each frame that names a stream at a stream of each type, each local call accepted and refused, and numbers handed out. The rules themselves are held to docs/RULES.md on a connection and one entry (crate accounts); here it is seen that the one entry is that of the stream, and that all others stay.
 use Prim.Native.Nat.{ℕ, _-_, _^_}
 use mathlib.Core.Path.{_≡_}
 use mathlib.Core.List.{List, [], _∷_, map}
 use lib.ListN.{replicate, set}
 use Rattle.answers.specs.Answers.{numberOf}
-use Rattle.frames.specs.declared.Kind.the-variants.{OneRtt}
+use Rattle.kinds.specs.declared.Kind.the-variants.{OneRtt}
 use Rattle.streams.specs.declared.Limits.{Limits}
 use Rattle.streams.specs.declared.Mark.{Mark}
 use Rattle.streams.specs.declared.Mark.the-variants.{Open, ByPeer}
-use Rattle.streams.specs.declared.Space.the-variants.{Initial, Handshake, Application}
+use Rattle.kinds.specs.declared.Space.the-variants.{Initial, Handshake, Application}
 use Rattle.streams.specs.Conn.{handedOutOf}
 use Rattle.entries.specs.declared.Entry.{Entry}
 use Rattle.entries.specs.Entry.{fresh}

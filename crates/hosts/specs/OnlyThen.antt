@@ -1,4 +1,4 @@
--- Document 01, 120: "before all else and only then", "nothing changed". Of every host and every call: it answers 120 exactly where the table does not fit, or one of a packet's three records, and then all is as it was.
+-- docs/RULES.md, "120 for the table": "before all else and only then", "nothing changed". Of every host and every call: it answers 120 exactly where the table does not fit, or one of a packet's three records, and then all is as it was.
 use mathlib.Core.Path.{_≡_}
 use mathlib.Core.Bool.{Bool, true, false, not, _&&_}
 use Rattle.answers.specs.declared.Answer.the-variants.{DoesNotFit}

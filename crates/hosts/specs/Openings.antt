@@ -1,4 +1,4 @@
--- Document 01, "Opening a connection sets every entry to its type's initial credit, end 0, no final size", whatever stood there; and what a refused opening leaves.
+-- docs/RULES.md, "Local calls": "Opening a connection sets every entry to its type's initial credit, end 0, no final size", whatever stood there; and what a refused opening leaves.
 use Prim.Native.Nat.{ℕ, _^_}
 use mathlib.Core.Path.{_≡_}
 use mathlib.Core.List.{List, [], _∷_, _++_, map}
@@ -12,7 +12,7 @@ use Rattle.streams.specs.declared.Limits.{Limits}
 use Rattle.entries.specs.declared.Entry.{Entry}
 use Rattle.entries.specs.Entry.{fresh}
 use Rattle.opening.specs.Opening.{openingWhen}
-use Rattle.local.specs.Table.{openedTable}
+use Rattle.tables.specs.Opened.{openedTable}
 use Rattle.hosts.specs.Unfit.{limitsOf, sized, plain}
 
 -- limits that grant nothing

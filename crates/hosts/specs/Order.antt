@@ -1,4 +1,4 @@
--- Document 01, "The order of checks": each pair of neighbours by an input that both would refuse. That a refused packet leaves the host and its records but for the mark is a law (demand 1); here it is seen once for each answer, with the place that is told.
+-- docs/RULES.md, "Taking a packet": "The order of checks": each pair of neighbours by an input that both would refuse. That a refused packet leaves the host and its records but for the mark is a law (demand 1); here it is seen once for each answer, with the place that is told.
 use Prim.Native.Nat.{ℕ, _^_}
 use mathlib.Core.Path.{_≡_}
 use mathlib.Core.List.{List, [], _∷_, _++_, map}
@@ -8,7 +8,7 @@ use Rattle.answers.specs.declared.Answer.{Answer}
 use Rattle.answers.specs.declared.Answer.the-variants.{FlowControl, FinalSize, ProtocolViolation, Closed, BelowRecord, InRecord, NoPacket, NoSuchNumber}
 use Rattle.streams.specs.declared.Mark.{Mark}
 use Rattle.streams.specs.declared.Mark.the-variants.{Open, Code, ByPeer}
-use Rattle.streams.specs.declared.Space.the-variants.{Application}
+use Rattle.kinds.specs.declared.Space.the-variants.{Application}
 use Rattle.entries.specs.declared.Entry.{Entry}
 use Rattle.spaces.specs.declared.Records.{Records}
 use Rattle.endings.specs.declared.Took.{Took}

@@ -1,4 +1,4 @@
--- Document 01, "A call for one frame (120, 101, then as above) also hands the frame as read to the caller": what is shown, with the answer and the connection after it. The frame wherever its fields could be read, also if a rule then refused it; else its type where it could be read; else nothing.
+-- docs/RULES.md, "For a frame": "A call for one frame (120, 101, then as above) also hands the frame as read to the caller": what is shown, with the answer and the connection after it. The frame wherever its fields could be read, also if a rule then refused it; else its type where it could be read; else nothing.
 use Prim.Native.Nat.{ℕ, _-_, _^_}
 use mathlib.Core.Path.{_≡_}
 use mathlib.Core.Bool.{false}
@@ -6,14 +6,14 @@ use mathlib.Core.List.{List, [], _∷_, map}
 use lib.ListN.{replicate}
 use Rattle.answers.specs.declared.Answer.{Answer}
 use Rattle.answers.specs.declared.Answer.the-variants.{Accepted, FlowControl, StreamLimit, StreamState, FinalSize, FrameEncoding, ProtocolViolation, Closed, DoesNotFit}
-use Rattle.frames.specs.declared.Kind.{Kind}
-use Rattle.frames.specs.declared.Kind.the-variants.{Initial, Handshake, ZeroRtt, OneRtt}
+use Rattle.kinds.specs.declared.Kind.{Kind}
+use Rattle.kinds.specs.declared.Kind.the-variants.{Initial, Handshake, ZeroRtt, OneRtt}
 use Rattle.frames.specs.declared.Frame.the-variants.{Padding, Ping, Ack, ResetStream, StopSending, Stream, ConnectionClose}
 use Rattle.streams.specs.declared.Mark.the-variants.{Open, Code, ByPeer}
 use Rattle.steps.specs.declared.Shown.{Shown}
 use Rattle.steps.specs.declared.Shown.the-variants.{Nothing, Typed, Whole}
 use Rattle.steps.specs.declared.TookFrame.{TookFrame}
-use Rattle.receive.specs.Taking.{tookFrameOf}
+use Rattle.single.specs.Single.{tookFrameOf}
 use Rattle.accounts.specs.History.{State}
 use Rattle.demands.specs.Hosts.{acted}
 use Rattle.demands.specs.Hosts.Act.{TakeFrame}

@@ -1,4 +1,4 @@
--- Document 01, "Three spaces: Initial, Handshake, and one for 0-RTT with 1-RTT": each has its own record, by which a packet's number is recovered, tested and recorded, and its own next number.
+-- docs/RULES.md, "Packet numbers": "Three spaces: Initial, Handshake, and one for 0-RTT with 1-RTT": each has its own record, by which a packet's number is recovered, tested and recorded, and its own next number.
 use Prim.Native.Nat.{ℕ, _^_}
 use mathlib.Core.Path.{_≡_}
 use mathlib.Core.List.{List, [], _∷_, map}

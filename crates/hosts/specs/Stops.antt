@@ -1,4 +1,4 @@
--- Document 01, "The walk stops at the first frame that is refused": a packet refused in its middle, by each kind of refusal, one that ends with CONNECTION_CLOSE and one of which all pass; each with all that it leaves.
+-- docs/RULES.md, "Taking a packet": "The walk stops at the first frame that is refused": a packet refused in its middle, by each kind of refusal, one that ends with CONNECTION_CLOSE and one of which all pass; each with all that it leaves.
 use Prim.Native.Nat.{ℕ}
 use mathlib.Core.Path.{_≡_}
 use mathlib.Core.List.{List, [], _∷_, _++_}

@@ -1,4 +1,4 @@
--- Document 01, "120 for the table, before all else and only then": each of its clauses at a place of each type that has entries and from both sides, through the call for one frame, and some through every call; and the same of a record.
+-- docs/RULES.md, "120 for the table": "120 for the table, before all else and only then": each of its clauses at a place of each type that has entries and from both sides, through the call for one frame, and some through every call; and the same of a record.
 -- That all calls find the same is a law (`OnlyThen`).
 use Prim.Native.Nat.{ℕ, _+_, _-_, _^_}
 use mathlib.Core.Path.{_≡_}
@@ -6,12 +6,12 @@ use mathlib.Core.List.{List, [], _∷_, _++_, map}
 use lib.ListN.{length, replicate, set}
 use Rattle.answers.specs.Answers.{numberOf}
 use Rattle.answers.specs.declared.Answer.the-variants.{Accepted, DoesNotFit, Closed}
-use Rattle.frames.specs.declared.Kind.the-variants.{OneRtt}
+use Rattle.kinds.specs.declared.Kind.the-variants.{OneRtt}
 use Rattle.records.specs.declared.Record.{Record}
 use Rattle.streams.specs.declared.Limits.{Limits}
 use Rattle.streams.specs.declared.Mark.{Mark}
 use Rattle.streams.specs.declared.Mark.the-variants.{Open, Code}
-use Rattle.streams.specs.declared.Space.the-variants.{Initial, Handshake, Application}
+use Rattle.kinds.specs.declared.Space.the-variants.{Initial, Handshake, Application}
 use Rattle.entries.specs.declared.Entry.{Entry}
 use Rattle.entries.specs.Entry.{fresh}
 use Rattle.opening.specs.Opening.{openingWhen}

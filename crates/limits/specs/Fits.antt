@@ -1,4 +1,4 @@
--- When a connection and its table fit (no 120), document 01, "120 for the table": entry by entry, and the connection's own numbers.
+-- When a connection and its table fit (no 120), docs/RULES.md, "120 for the table": entry by entry, and the connection's own numbers.
 use Prim.Native.Nat.{ℕ, zero, suc, _+_, _/_, _%_}
 use mathlib.Core.Bool.{Bool, true, false, not, _&&_}
 use mathlib.Core.List.{List}

@@ -1,4 +1,4 @@
--- Listings computed on the definitions, document 01, "Bench examples": each row of a payload and its last line, for each of the three ways in which that can end.
+-- Listings computed on the definitions, docs/RULES.md, "The listing": each row of a payload and its last line, for each of the three ways in which that can end.
 use Prim.Native.Nat.{ℕ}
 use mathlib.Core.Path.{_≡_}
 use mathlib.Core.Bool.{true, false}
@@ -32,7 +32,7 @@ abbrev pub goesOn : Mark → Shown → ℕ
 goesOn mark shown = afterOf (record { answer = Accepted; shown = shown; conn = markedAs (first .conn) mark }) 9
 
 pub record Example : Type 0 where
-  -- the example of document 01: PING, STREAM "hello" on stream 0, and a RESET_STREAM of stream 0 at 20, which breaks its credit: "0 1 0 0", "1 10 0 5", "9 4 3 5", "closed 3"
+  -- the example of docs/RULES.md: PING, STREAM "hello" on stream 0, and a RESET_STREAM of stream 0 at 20, which breaks its credit: "0 1 0 0", "1 10 0 5", "9 4 3 5", "closed 3"
   pub example : written (0x01 ∷ 0x0a ∷ 0x00 ∷ 0x05 ∷ 0x68 ∷ 0x65 ∷ 0x6c ∷ 0x6c ∷ 0x6f ∷ 0x04 ∷ 0x04 ∷ 0x00 ∷ 0x14 ∷ [])
       ≡ 48 ∷ 32 ∷ 49 ∷ 32 ∷ 48 ∷ 32 ∷ 48 ∷ 10 ∷ 49 ∷ 32 ∷ 49 ∷ 48 ∷ 32 ∷ 48 ∷ 32 ∷ 53 ∷ 10 ∷ 57 ∷ 32 ∷ 52 ∷ 32 ∷ 51 ∷ 32 ∷ 53 ∷ 10 ∷ 99 ∷ 108 ∷ 111 ∷ 115 ∷ 101 ∷ 100 ∷ 32 ∷ 51 ∷ 10 ∷ []
   -- its first two frames alone: "0 1 0 0", "1 10 0 5", "open"

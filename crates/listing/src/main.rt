@@ -1,4 +1,4 @@
-// Lists the frames of one 1-RTT payload, read from standard input into the small connection (document 01, "Bench examples").
+// Lists the frames of one 1-RTT payload, read from standard input into the small connection (docs/RULES.md, "The listing").
 mod output;
 mod walk;
 

@@ -10,7 +10,6 @@ use prog.Routine.{Routine}
 use prog.Wp.{Heap}
 use Rattle.answers.specs.Firm.{Firm, FirmClauses}
 use Rattle.answers.proofs.Firm.{equation, clauses-equations}
-use Rattle.local.proofs.open as opening
 use Rattle.local.proofs.call as calling
 use Rattle.local.proofs.hand_out.Kinds as hand-out
 use Rattle.local.proofs.hand_out.Reads as hand-out-reads
@@ -19,8 +18,5 @@ pub hand-out-firm : Firm 0 hand-out.ps hand-out.r hand-out-reads.Asked hand-out-
 hand-out-firm = equation refl
 
 module _ {M : Type 1} (𝓤 : URA M) (H : Heap 𝓤) (A : Atoms 𝓤) (mem : Memory → SProp 𝓤) (run : Routine → Fun 𝓤) where
-  pub open-firm : FirmClauses 𝓤 opening.ended (opening.clauses 𝓤 H A mem run)
-  open-firm = clauses-equations (λ κs a w. (w, (tt, tt))) refl
-
   pub call-firm : FirmClauses 𝓤 calling.ended (calling.clauses 𝓤 H A mem run)
   call-firm = clauses-equations (λ κs a w. (tt, (w, (tt, tt)))) refl

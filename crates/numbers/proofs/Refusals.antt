@@ -1,4 +1,4 @@
--- No length is given for document 01's four reasons and for no other: the tests of the definition are these reasons.
+-- No length is given for the four reasons of docs/RULES.md, "Packet numbers" and for no other: the tests of the definition are these reasons.
 -- Assumes nothing.
 use mathlib.Core.Path.{_≡_, refl}
 use mathlib.Core.Bool.{false}

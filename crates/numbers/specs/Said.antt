@@ -1,4 +1,4 @@
--- What recovering a number and choosing a length say: 0 and the number, 0 and the length as 1 to 4, or the number that refuses it. (Document 01: "When an answer is an enum, the promises use a definition that gives this paper's number and values for each of the enum's cases".)
+-- What recovering a number and choosing a length say: 0 and the number, 0 and the length as 1 to 4, or the number that refuses it. (docs/RULES.md, "How firm each statement is".)
 use Prim.Native.Nat.{ℕ}
 use mathlib.Core.List.{List, [], _∷_}
 use Rattle.answers.specs.Answers.{Said, accepting, refusing}

@@ -21,7 +21,7 @@ pub record Enough (pn : ℕ) (acked : ℤ) (size : Size) : Type 0 where
   pub enough : 2 * d ≤ windowOf size
   pub least : (n : ℕ) → n < bytesIn size → 256 ^ n < 2 * d
 
--- why there is no length for pn: document 01's reasons, "103 if there is none, pn is above 2^62-1, or acked is below -1 or not below pn"
+-- why there is no length for pn: docs/RULES.md, "Packet numbers": "103 if there is none, pn is above 2^62-1, or acked is below -1 or not below pn"
 pub data NoLength (pn : ℕ) (acked : ℤ) : Type 0 where
   TooFar : (d : ℕ) → pos pn -ℤ acked ≡ pos d → 256 ^ 4 < 2 * d → NoLength pn acked
   AboveRange : 2 ^ 62 ≤ pn → NoLength pn acked

@@ -1,4 +1,4 @@
-// How a connection is opened (document 01, "Streams and credit"): 103 for a limit above its ceiling, 120 for a table of another
+// How a connection is opened (docs/RULES.md, "Local calls"): 103 for a limit above its ceiling, 120 for a table of another
 // length, and the entries as opening sets them.
 ghost use mathlib.Core.Path.{_≡_};
 ghost use Prim.Native.Nat.{_/_};

@@ -12,8 +12,6 @@ use Rattle.answers.specs.Firm.{FirmClauses}
 use Rattle.answers.proofs.Firm.{clauses-equation}
 use Rattle.owned.proofs.open as opening
 use Rattle.owned.proofs.take_frame as take-frame
-use Rattle.owned.proofs.take_packet as take-packet
-use Rattle.owned.proofs.call as calling
 
 module _ {M : Type 1} (𝓤 : URA M) (H : Heap 𝓤) (A : Atoms 𝓤) (mem : Memory → SProp 𝓤) (run : Routine → Fun 𝓤) where
   pub open-firm : FirmClauses 𝓤 opening.ended (opening.clauses 𝓤 H A mem run)
@@ -21,9 +19,3 @@ module _ {M : Type 1} (𝓤 : URA M) (H : Heap 𝓤) (A : Atoms 𝓤) (mem : Mem
 
   pub take-frame-firm : FirmClauses 𝓤 take-frame.ended (take-frame.clauses 𝓤 H A mem run)
   take-frame-firm = clauses-equation refl
-
-  pub take-packet-firm : FirmClauses 𝓤 take-packet.ended (take-packet.clauses 𝓤 H A mem run)
-  take-packet-firm = clauses-equation refl
-
-  pub call-firm : FirmClauses 𝓤 calling.ended (calling.clauses 𝓤 H A mem run)
-  call-firm = clauses-equation refl

@@ -1,4 +1,4 @@
--- A packet up to its frames, document 01, "Taking a packet". The order of checks: 120; closed 101; Retry, bit 0x40 clear, or fewer bytes than the number's length 110;
+-- A packet up to its frames, docs/RULES.md, "Taking a packet". The order of checks: 120; closed 101; Retry, bit 0x40 clear, or fewer bytes than the number's length 110;
 -- 111; 106; 107; reserved bits not zero code 10; no frames code 10; then the frames.
 use Prim.Native.Nat.{ℕ}
 use mathlib.Core.Bool.{Bool, not, _&&_}
@@ -9,8 +9,8 @@ use Rattle.answers.specs.Choice.{_⇒_∣_}
 use Rattle.answers.specs.declared.Answer.{Answer}
 use Rattle.answers.specs.declared.Answer.the-variants.{Accepted, ProtocolViolation, Closed, NoPacket, DoesNotFit}
 use Rattle.wire.specs.Number.{bigEndian}
-use Rattle.frames.specs.declared.Kind.{Kind}
-use Rattle.frames.specs.declared.Kind.the-variants.{OneRtt}
+use Rattle.kinds.specs.declared.Kind.{Kind}
+use Rattle.kinds.specs.declared.Kind.the-variants.{OneRtt}
 use Rattle.numbers.specs.Numbers.{bytesIn, recoveredOf}
 use Rattle.numbers.specs.declared.Recovered.{Recovered}
 use Rattle.numbers.specs.declared.Recovered.the-variants as Recovered'
@@ -19,7 +19,7 @@ use Rattle.records.specs.Marks.{testOf}
 use Rattle.streams.specs.declared.Conn.{Conn}
 use Rattle.streams.specs.declared.Mark.the-variants.{Code}
 use Rattle.streams.specs.Conn.{isOpen, markedAs}
-use Rattle.streams.specs.Conn.{spaceOf}
+use Rattle.kinds.specs.Kinds.{spaceOf}
 use Rattle.answers.specs.Answers.{accepts}
 use Rattle.headers.specs.First.{headerOf, sizeIn, reservedOf}
 use Rattle.spaces.specs.Spaces.{recordOf, recordsFit}

@@ -1,13 +1,13 @@
 // A packet before its frames: the order of checks up to them.
 ghost use mathlib.Core.Path.{_≡_};
 ghost use Rattle.records.specs.Parts.{joined};
-ghost use Rattle.streams.specs.Conn.{spaceOf};
+ghost use Rattle.kinds.specs.Kinds.{spaceOf};
 ghost use Rattle.spaces.specs.Spaces.{ofParts, recordOf};
 ghost use Rattle.packets.specs.Begin.{refusedOf, closesOf, testedOf, inSpaceOf, beginOf};
 use crate::Begun;
 use answers::Answer;
-use frames::Kind;
 use headers::Header;
+use kinds::Kind;
 use numbers::Recovered;
 use spaces::Records;
 use streams::Conn;

@@ -1,8 +1,8 @@
-// A packet before its frames (document 01, "Taking a packet"): the order of checks up to them.
+// A packet before its frames (docs/RULES.md, "Taking a packet"): the order of checks up to them.
 pub mod checks;
 
 use answers::Answer;
-use frames::Kind;
+use kinds::Kind;
 use streams::Conn;
 
 // A packet up to its frames: where they begin, in a packet of which kind and number; or the answer that refuses it,

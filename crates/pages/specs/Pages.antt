@@ -1,4 +1,4 @@
--- The listing of a payload, document 01, "Bench examples": frame after frame into the small connection, up to the one that closes it, as many rows at a time as an output holds.
+-- The listing of a payload, docs/RULES.md, "The listing": frame after frame into the small connection, up to the one that closes it, as many rows at a time as an output holds.
 use Prim.Native.Nat.{ℕ, zero, suc}
 use mathlib.Core.Bool.{true, false, _||_}
 use mathlib.Core.List.{List}
@@ -8,7 +8,7 @@ use Rattle.answers.specs.Choice.{_⇒_∣_}
 use Rattle.wire.specs.Writing.{Bytes, writes}
 use Rattle.wire.specs.declared.Wrote.{Wrote}
 use Rattle.wire.specs.declared.Wrote.the-variants.{To, Refused}
-use Rattle.frames.specs.declared.Kind.the-variants.{OneRtt}
+use Rattle.kinds.specs.declared.Kind.the-variants.{OneRtt}
 use Rattle.halves.specs.Stream.{entries}
 use Rattle.entries.specs.Entry.{fresh}
 use Rattle.streams.specs.Small.{small}

@@ -1,8 +1,8 @@
-// The listing of a payload (document 01, "Bench examples"), as many rows at a time as an output holds.
+// The listing of a payload (docs/RULES.md, "The listing"), as many rows at a time as an output holds.
 ghost use mathlib.Core.Path.{_≡_};
 ghost use Rattle.pages.specs.Pages.{smallOf, oneMoreOf, pageOf};
 use entries::Entry;
-use frames::Kind;
+use kinds::Kind;
 use owned::OwnedOpened;
 use report::taken;
 use streams::Conn;

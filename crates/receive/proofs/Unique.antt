@@ -10,12 +10,8 @@ use prog.Routine.{Routine}
 use prog.Wp.{Heap}
 use Rattle.answers.specs.Firm.{FirmClauses}
 use Rattle.answers.proofs.Firm.{clauses-equations}
-use Rattle.receive.proofs.take_frame as take-frame
 use Rattle.receive.proofs.take_packet as take-packet
 
 module _ {M : Type 1} (𝓤 : URA M) (H : Heap 𝓤) (A : Atoms 𝓤) (mem : Memory → SProp 𝓤) (run : Routine → Fun 𝓤) where
-  pub take-frame-firm : FirmClauses 𝓤 take-frame.ended (take-frame.clauses 𝓤 H A mem run)
-  take-frame-firm = clauses-equations (λ κs a w. (tt, (w, (tt, (tt, (tt, tt)))))) refl
-
   pub take-packet-firm : FirmClauses 𝓤 take-packet.ended (take-packet.clauses 𝓤 H A mem run)
   take-packet-firm = clauses-equations (λ κs a w. (tt, (tt, (w, (tt, (tt, tt)))))) refl

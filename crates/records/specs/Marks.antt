@@ -1,4 +1,4 @@
--- The numbers that a packet record holds, document 01, "Packet numbers": those from largest-8,191 to largest, a bit for each; and what is answered of a record and of a number.
+-- The numbers that a packet record holds, docs/RULES.md, "The record of a space": those from largest-8,191 to largest, a bit for each; and what is answered of a record and of a number.
 use Prim.Native.Nat.{ℕ, _+_, _-_, _^_, _≤_, _<_}
 use mathlib.Core.Path.{_≡_}
 use mathlib.Core.Bool.{Bool, _&&_, _||_}

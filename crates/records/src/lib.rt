@@ -1,4 +1,4 @@
-// The record of the last 8,192 packet numbers of a space (document 01, "Packet numbers"): a ring of 128 words, a bit for each number.
+// The record of the last 8,192 packet numbers of a space (docs/RULES.md, "The record of a space"): a ring of 128 words, a bit for each number.
 ghost use mathlib.Core.Path.{_≡_};
 ghost use Prim.Native.Nat.{_+_, _≤_, _<_, _^_};
 ghost use Rattle.ring.specs.Parts.{Without, Put};

@@ -4,12 +4,12 @@ use crate::line;
 use crate::spoils;
 use crate::spoils::Spoil;
 use calls::Call;
-use frames::Kind;
 use hex::Pairs;
+use kinds::Kind;
+use kinds::Space;
 use lines::words;
 use lines::words::Signed;
 use numbers::Size;
-use streams::Space;
 use text::decimal::Parsed;
 
 // A command, whose bytes, if it has any, stand beside it: `count` says how many.

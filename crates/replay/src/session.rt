@@ -1,11 +1,11 @@
 // What is kept between lines: whether a connection was opened, that connection, its three records and its table.
 use answers::Answer;
 use entries::Entry;
+use kinds::Space;
 use opening::Opened;
 use records::Record;
 use spaces::Records;
 use streams::Conn;
-use streams::Space;
 
 pub struct Session {
     pub opened: bool,

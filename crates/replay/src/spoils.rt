@@ -6,8 +6,8 @@ use crate::line;
 use crate::session;
 use crate::session::Session;
 use entries::Entry;
+use kinds::Space;
 use streams::Conn;
-use streams::Space;
 use text::decimal::Parsed;
 
 pub enum Spoil {

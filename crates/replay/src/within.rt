@@ -8,14 +8,14 @@ use crate::spoils;
 use crate::state;
 use calls::Call;
 use entries::Entry;
-use frames::Kind;
+use kinds::Kind;
+use kinds::Space;
 use records::Record;
 use spaces::Records;
 use steps::Shown;
 use streams::Called;
 use streams::Conn;
 use streams::Limits;
-use streams::Space;
 use wire::Wrote;
 
 // Opens a connection; a refusal leaves the one there was.
@@ -96,7 +96,7 @@ fn packet(
     if s.len() < count {
         return state::end(out, 0, c, records, table);
     }
-    let h = owned::take_packet(c, records, table, first, &s[0..count]);
+    let h = owned_calls::take_packet(c, records, table, first, &s[0..count]);
     let took = h.took;
     let answer = took.answer;
     let o = say::number(out, 0, answer.number());
@@ -152,7 +152,7 @@ fn make(
     call: Call,
     out: &mut [u8; 16384],
 ) -> Ran {
-    let h = owned::call(c, table, call);
+    let h = owned_calls::call(c, table, call);
     let d = h.called;
     let rows = h.table;
     match call {

@@ -1,4 +1,4 @@
--- What the listing shows of each frame that is taken, where it goes on, and its last line (document 01, "Bench examples").
+-- What the listing shows of each frame that is taken, where it goes on, and its last line (docs/RULES.md, "The listing").
 use Prim.Native.Nat.{ℕ}
 use mathlib.Core.Bool.{Bool}
 use mathlib.Core.List.{List, [], _∷_, _++_}

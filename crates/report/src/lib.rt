@@ -1,2 +1,2 @@
-// What the listing shows (document 01, "Bench examples").
+// What the listing shows (docs/RULES.md, "The listing").
 pub mod taken;

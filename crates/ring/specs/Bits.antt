@@ -1,4 +1,4 @@
--- A ring of 128 words, a bit for each of 8,192 numbers that follow one another (document 01, "Packet numbers").
+-- A ring of 128 words, a bit for each of 8,192 numbers that follow one another (docs/RULES.md, "The record of a space").
 use Prim.Native.Nat.{ℕ, zero, suc, _+_, _/_, _%_, _^_}
 use mathlib.Core.Bool.{Bool, true, false, _&&_}
 use mathlib.Core.List.{List}

@@ -1,4 +1,4 @@
--- Runs of numbers, document 01, "Acknowledgement": from the highest number down, each as long as it can be.
+-- Runs of numbers, docs/RULES.md, "Acknowledgement": from the highest number down, each as long as it can be.
 use Prim.Native.Nat.{ℕ, zero, suc, _-_, _≤_, _<_}
 use mathlib.Core.Path.{_≡_}
 use mathlib.Core.Bool.{Bool, true, false}

@@ -1,4 +1,4 @@
--- Document 01's rules of writing frames at their borders: they hold the definitions to the document. Beside each, its sentence.
+-- The rules of writing frames at their borders: they hold the definitions to docs/RULES.md. Beside each, its sentence.
 use Prim.Native.Nat.{ℕ, _+_, _-_, _^_}
 use mathlib.Core.Path.{_≡_}
 use mathlib.Core.Bool.{false}

@@ -1,4 +1,4 @@
--- The rules for STREAM and RESET_STREAM one by one, document 01, "STREAM with end = offset + length, in this order"; and those of the frames that name a stream without an end.
+-- The rules for STREAM and RESET_STREAM one by one, docs/RULES.md, "Streams and credit": "STREAM with end = offset + length, in this order"; and those of the frames that name a stream without an end.
 use Prim.Native.Nat.{ℕ, _+_, _-_}
 use mathlib.Core.Bool.{Bool, false, not, _&&_, _||_}
 use lib.Dec.{ltb, leb, eqb}

@@ -1,4 +1,4 @@
-// Rules 1 to 5 of document 01 ("Streams and credit") on a connection and ONE entry of its table, by value: one function each, and
+// Rules 1 to 5 of docs/RULES.md, "Streams and credit", on a connection and ONE entry of its table, by value: one function each, and
 // the answers that they give together.
 ghost use mathlib.Core.Path.{_≡_};
 ghost use Prim.Native.Nat.{_-_};

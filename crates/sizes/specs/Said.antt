@@ -1,4 +1,4 @@
--- What measuring a frame says: 0 and how many bytes it has, or 109, "a frame that the reader would refuse with 7". (Document 01: "When an answer is an enum, the promises use a definition that gives this paper's number and values for each of the enum's cases".)
+-- What measuring a frame says: 0 and how many bytes it has, or 109, "a frame that the reader would refuse with 7". (docs/RULES.md, "How firm each statement is".)
 use Prim.Native.Nat.{ℕ}
 use mathlib.Core.List.{List, [], _∷_}
 use Rattle.answers.specs.Answers.{Said, accepting, refusing}

@@ -5,11 +5,11 @@ use mathlib.Core.Path.{_≡_, refl}
 use mathlib.Core.List.{List, [], _∷_}
 use denote.Enum.Declared.{tagOf}
 use types.Run.{OneOf, miss}
-use Rattle.frames.specs.declared.Kind.{Kind}
-use Rattle.frames.specs.declared.Kind.the-variants.{Initial, Handshake, ZeroRtt, OneRtt}
-use Rattle.frames.proofs.Kind as kind
-use Rattle.streams.specs.Conn.{spaceOf}
-use Rattle.streams.specs.declared.Space.the-variants.{Application}
+use Rattle.kinds.specs.declared.Kind.{Kind}
+use Rattle.kinds.specs.declared.Kind.the-variants.{Initial, Handshake, ZeroRtt, OneRtt}
+use Rattle.kinds.proofs.Kind as kind
+use Rattle.kinds.specs.Kinds.{spaceOf}
+use Rattle.kinds.specs.declared.Space.the-variants.{Application}
 
 -- the tags of 0-RTT and 1-RTT
 abbrev last : List ℕ

@@ -6,8 +6,8 @@ use Rattle.records.specs.declared.Record.{Record}
 use Rattle.records.specs.Marks.{soundOf}
 use Rattle.records.specs.Ring.{takenOf}
 use Rattle.records.specs.Parts.{joined}
-use Rattle.streams.specs.declared.Space.{Space}
-use Rattle.streams.specs.declared.Space.the-variants.{Initial, Handshake, Application}
+use Rattle.kinds.specs.declared.Space.{Space}
+use Rattle.kinds.specs.declared.Space.the-variants.{Initial, Handshake, Application}
 use Rattle.spaces.specs.declared.Records.{Records}
 
 -- the three records by their words and tops, which the code is lent apart

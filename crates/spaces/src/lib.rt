@@ -1,9 +1,9 @@
 // The records of the three packet-number spaces together: whether all fit, and one number more in the space of a packet.
 ghost use mathlib.Core.Path.{_≡_};
-ghost use Rattle.streams.specs.Conn.{spaceOf};
+ghost use Rattle.kinds.specs.Kinds.{spaceOf};
 ghost use Rattle.spaces.specs.Spaces.{ofParts, recordsFit, recordedOf};
 use answers::Answer;
-use frames::Kind;
+use kinds::Kind;
 use records::Record;
 
 // The records of the three spaces.

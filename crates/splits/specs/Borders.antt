@@ -1,4 +1,4 @@
--- Document 01's "Splitting a datagram" at its borders, each clause from both sides, on whole datagrams and with all that is handed back: they hold the definition to the document. Beside each, its sentence.
+-- docs/RULES.md, "Splitting a datagram", at its borders, each clause from both sides, on whole datagrams and with all that is handed back: they hold the definition to docs/RULES.md. Beside each, its sentence.
 use Prim.Native.Nat.{ℕ}
 use mathlib.Core.Path.{_≡_}
 use mathlib.Core.List.{List, [], _∷_, _++_, map}

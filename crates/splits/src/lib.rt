@@ -1,1 +1,1 @@
-// Theorems alone: whole datagrams split at the borders of every clause of document 01, computed.
+// Theorems alone: whole datagrams split at the borders of every clause of docs/RULES.md, "Splitting a datagram", computed.

@@ -5,7 +5,7 @@ use Rattle.answers.specs.Choice.{_⇒_∣_}
 use Rattle.answers.specs.declared.Answer.the-variants.{Accepted}
 use Rattle.wire.specs.Number.{numberAt, withNumber}
 use Rattle.wire.specs.declared.Number.{Number}
-use Rattle.frames.specs.declared.Kind.{Kind}
+use Rattle.kinds.specs.declared.Kind.{Kind}
 use Rattle.frames.specs.declared.Reading.{Reading}
 use Rattle.frames.specs.declared.Reading.the-variants.{Got, Refused}
 use Rattle.frames.specs.Reading.{frameAt}

@@ -1,5 +1,5 @@
 // One frame of a payload as a step on a connection and ONE entry, and what comes before any call: the gate, and opening. By value
-// (document 01, "Taking a packet"): what a host's call does, apart from the lent table.
+// (docs/RULES.md, "Taking a packet"): what a host's call does, apart from the lent table.
 pub mod frame;
 pub mod gates;
 

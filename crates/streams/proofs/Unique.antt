@@ -5,8 +5,6 @@ use Rattle.answers.specs.Firm.{Firm}
 use Rattle.answers.proofs.Firm.{equation}
 use Rattle.streams.proofs.Mark.is_open.Kinds as is-open
 use Rattle.streams.proofs.Mark.is_open.Reads as is-open-reads
-use Rattle.streams.proofs.Space.of.Kinds as of
-use Rattle.streams.proofs.Space.of.Reads as of-reads
 use Rattle.streams.proofs.Limits.fit.Kinds as fit
 use Rattle.streams.proofs.Limits.fit.Reads as fit-reads
 use Rattle.streams.proofs.Limits.initial_of.Kinds as initial-of
@@ -28,9 +26,6 @@ use Rattle.streams.proofs.larger.Reads as larger-reads
 
 pub is-open-firm : Firm 0 is-open.ps is-open.r is-open-reads.Asked is-open-reads.Post
 is-open-firm = equation refl
-
-pub of-firm : Firm 0 of.ps of.r of-reads.Asked of-reads.Post
-of-firm = equation refl
 
 pub fit-firm : Firm 0 fit.ps fit.r fit-reads.Asked fit-reads.Post
 fit-firm = equation refl

@@ -5,8 +5,6 @@ use lib.ListN.{getD, set}
 use lib.Dec.{ltb, leb}
 use Rattle.answers.specs.Choice.{_⇒_∣_}
 use Rattle.answers.specs.declared.Answer.the-variants.{Accepted, AboveCeiling}
-use Rattle.frames.specs.declared.Kind as kinds
-use Rattle.frames.specs.declared.Kind.the-variants as Kind'
 use Rattle.halves.specs.Stream.{halfOf, ordinalOf, peers, mostStreams}
 use Rattle.entries.specs.Entry.{mostCredit}
 use Rattle.streams.specs.declared.Called.{Called}
@@ -14,8 +12,8 @@ use Rattle.streams.specs.declared.Conn.{Conn}
 use Rattle.streams.specs.declared.Limits.{Limits}
 use Rattle.streams.specs.declared.Mark.{Mark}
 use Rattle.streams.specs.declared.Mark.the-variants.{Open, Code, ByPeer}
-use Rattle.streams.specs.declared.Space.{Space}
-use Rattle.streams.specs.declared.Space.the-variants.{Initial, Handshake, Application}
+use Rattle.kinds.specs.declared.Space.{Space}
+use Rattle.kinds.specs.declared.Space.the-variants.{Initial, Handshake, Application}
 
 abbrev pub isOpen : Mark → Bool
 isOpen Open = true
@@ -63,13 +61,6 @@ abbrev pub openTo : Conn → ℕ → ℕ → Conn
 openTo c id total = record { limits = c .limits; opened = set (c .opened) (halfOf id) (max (openedOf c (halfOf id)) (ordinalOf id + 1)); total = total; next = c .next; mark = c .mark }
 
 -- ---- the numbers handed out
-
--- "Three spaces: Initial, Handshake, and one for 0-RTT with 1-RTT"
-abbrev pub spaceOf : kinds.Kind → Space
-spaceOf Kind'.Initial = Initial
-spaceOf Kind'.Handshake = Handshake
-spaceOf Kind'.ZeroRtt = Application
-spaceOf Kind'.OneRtt = Application
 
 abbrev pub indexOf : Space → ℕ
 indexOf Initial = 0

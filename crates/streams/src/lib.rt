@@ -1,11 +1,11 @@
-// A connection in its parts (document 01, "Streams and credit"): how it is read and changed, by value. What a frame or a
+// A connection in its parts (docs/RULES.md, "Streams and credit"): how it is read and changed, by value. What a frame or a
 // local call may do to it is said by the crates above.
 ghost use mathlib.Core.Path.{_≡_};
 ghost use Prim.Native.Nat.{_<_, max};
 ghost use Rattle.halves.specs.Stream.{halfOf};
-ghost use Rattle.streams.specs.Conn.{isOpen, openedOf, countOf, initialOf, markedAs, openTo, spaceOf, indexOf, nextOf, handedOutOf, limitsFit};
+ghost use Rattle.streams.specs.Conn.{isOpen, openedOf, countOf, initialOf, markedAs, openTo, indexOf, nextOf, handedOutOf, limitsFit};
 use answers::Answer;
-use frames::Kind;
+use kinds::Space;
 
 // The closing mark: none, a code and the type of the frame that gave it, or the peer's own closing.
 pub enum Mark {
@@ -39,13 +39,6 @@ pub struct Called {
     pub conn: Conn,
 }
 
-// The three spaces of packet numbers.
-pub enum Space {
-    Initial,
-    Handshake,
-    Application,
-}
-
 impl Mark {
     pub fn is_open(self) -> bool
         ensures { λ r. ⌜ r ≡ isOpen self ⌝ }
@@ -58,28 +51,14 @@ impl Mark {
     }
 }
 
-impl Space {
-    // The space of a packet: 0-RTT and 1-RTT share one.
-    pub fn of(kind: Kind) -> Space
-        ensures { λ r. ⌜ r ≡ spaceOf kind ⌝ }
-    {
-        match kind {
-            Kind::Initial => Space::Initial,
-            Kind::Handshake => Space::Handshake,
-            Kind::ZeroRtt => Space::Application,
-            Kind::OneRtt => Space::Application,
-        }
-    }
-
-    // Where its next number stands.
-    fn index(self) -> usize
-        ensures { λ r. ⌜ (r ≡ indexOf self) × (r < 3) ⌝ }
-    {
-        match self {
-            Space::Initial => 0,
-            Space::Handshake => 1,
-            Space::Application => 2,
-        }
+// Where the next number of a space stands.
+fn index(space: Space) -> usize
+    ensures { λ r. ⌜ (r ≡ indexOf space) × (r < 3) ⌝ }
+{
+    match space {
+        Space::Initial => 0,
+        Space::Handshake => 1,
+        Space::Application => 2,
     }
 }
 
@@ -154,7 +133,7 @@ impl Conn {
     pub fn next_of(self, space: Space) -> u64
         ensures { λ r. ⌜ r ≡ nextOf self space ⌝ }
     {
-        let i = space.index();
+        let i = index(space);
         self.next[i]
     }
 
@@ -190,7 +169,7 @@ impl Conn {
     pub fn hand_out(self, space: Space) -> Called
         ensures { λ r. ⌜ r ≡ handedOutOf self space ⌝ }
     {
-        let i = space.index();
+        let i = index(space);
         let number = self.next[i];
         if Conn::MOST_CREDIT < number {
             return Called {

@@ -9,9 +9,13 @@ use prog.Memory.{Memory}
 use prog.Routine.{Routine}
 use prog.Wp.{Heap}
 use Rattle.answers.specs.Firm.{FirmClauses}
-use Rattle.answers.proofs.Firm.{clauses-equation}
+use Rattle.answers.proofs.Firm.{clauses-equation, clauses-equations}
 use Rattle.tables.proofs.fits as fitting
+use Rattle.tables.proofs.open as opening
 
 module _ {M : Type 1} (𝓤 : URA M) (H : Heap 𝓤) (A : Atoms 𝓤) (mem : Memory → SProp 𝓤) (run : Routine → Fun 𝓤) where
   pub fits-firm : FirmClauses 𝓤 fitting.ended (fitting.clauses 𝓤 H A mem run)
   fits-firm = clauses-equation refl
+
+  pub open-firm : FirmClauses 𝓤 opening.ended (opening.clauses 𝓤 H A mem run)
+  open-firm = clauses-equations (λ κs a w. (w, (tt, tt))) refl

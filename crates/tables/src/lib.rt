@@ -1,13 +1,17 @@
-// Whether the lent stream table fits its connection, half after half in one pass. Beside opening, no other call looks at more
-// of it than one entry.
+// The lent stream table as a whole: set as opening sets it, and the check that it fits its connection, half after half in one
+// pass. No other call looks at more of it than one entry.
 ghost use mathlib.Core.Path.{_≡_};
 ghost use Prim.Native.Nat.{_+_, _-_, _≤_};
 ghost use lib.ListN.{length};
 ghost use Rattle.limits.specs.Fits;
+ghost use Rattle.opening.specs.Opening.{openingWhen};
+ghost use Rattle.tables.specs.Opened.{filledTo, openedTable};
 ghost use Rattle.tables.specs.Table.{summedTo, untouchedTo};
 use entries::Entry;
 use limits::fits::Summed;
+use opening::Opened;
 use streams::Conn;
+use streams::Limits;
 
 // The second and the third half's entries begin here: each half that receives has as many.
 const SECOND: usize = Conn::ENTRIES / 3;
@@ -62,4 +66,26 @@ pub fn fits(c: Conn, t: &[Entry]) -> bool
     let r = limits::fits::part_of(c, 2);
     let d = part(t, THIRD, r.credit, r.opened, r.initial, b);
     limits::fits::conclude(c, d)
+}
+
+// Sets the first n entries as opening does.
+fn fill(t: &mut [Entry], n: usize, limits: Limits)
+    requires { ⌜ n ≤ length (now t) ⌝ }
+    ensures { λ _. ⌜ now (t .exit) ≡ filledTo n (now (t .entry)) limits ⌝ }
+{
+    let mut i: usize = 0;
+    while i < n {
+        t[i] = opening::entry(i, limits);
+        i += 1;
+    }
+}
+
+// Opens a connection: 120 unless the table has 192 entries, then 103. Every entry is set to its half's initial credit.
+pub fn open(t: &mut [Entry], limits: Limits) -> Opened
+    ensures { λ r. ⌜ (r ≡ openingWhen (length (now (t .entry))) limits) × (now (t .exit) ≡ openedTable (now (t .entry)) limits) ⌝ }
+{
+    let o = opening::for_table(t.len(), limits);
+    let n = opening::count(o.answer);
+    fill(t, n, limits);
+    o
 }

@@ -3,11 +3,11 @@ use Prim.Native.Nat.{ℕ, _+_, _-_, _^_}
 use mathlib.Core.Bool.{true}
 use lib.Dec.{ltb}
 use Rattle.answers.specs.Choice.{_⇒_∣_}
-use Rattle.frames.specs.declared.Kind.{Kind}
+use Rattle.kinds.specs.declared.Kind.{Kind}
 use Rattle.frames.specs.declared.Frame.{Frame}
 use Rattle.frames.specs.declared.Frame.the-variants as Frame'
 use Rattle.halves.specs.Stream.{placeOf}
-use Rattle.streams.specs.Conn.{spaceOf}
+use Rattle.kinds.specs.Kinds.{spaceOf}
 use Rattle.views.specs.declared.View.{View}
 use Rattle.views.specs.declared.View.the-variants.{Ends, Blocks, ForSender, Acks, Closes, Nothing}
 

@@ -2,8 +2,8 @@
 ghost use mathlib.Core.Path.{_≡_};
 ghost use Rattle.views.specs.View.{endOf, viewOf, framePlace};
 use frames::Frame;
-use frames::Kind;
-use streams::Space;
+use kinds::Kind;
+use kinds::Space;
 
 // What a frame asks of the streams: to take a stream's data up to an end; to note that a stream is blocked, or something
 // for our sending half of one; to note an acknowledgement; to close the connection; or nothing.

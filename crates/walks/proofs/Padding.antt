@@ -12,7 +12,7 @@ use lib.ListN.{length, getD, set}
 use lib.Seq.{set-getD}
 use Rattle.answers.specs.Choice.{_⇒_∣_}
 use Rattle.answers.specs.declared.Answer.the-variants.{Accepted}
-use Rattle.frames.specs.declared.Kind.{Kind}
+use Rattle.kinds.specs.declared.Kind.{Kind}
 use Rattle.frames.proofs.Order.{padding}
 use Rattle.streams.specs.declared.Conn.{Conn}
 use Rattle.entries.specs.declared.Entry.{Entry}
@@ -26,7 +26,8 @@ use Rattle.steps.specs.declared.Decided.{Decided}
 use Rattle.steps.specs.Step.{requestOf, requestAt, decidedOf}
 use Rattle.steps.specs.Past.{pastOf, pastZeros, pastPadding}
 use Rattle.answers.proofs.Choice.{holds, through}
-use Rattle.walks.specs.Walk.{decidedAt, stopped, Walked, walkFrom}
+use Rattle.walks.specs.Walk.{stopped, Walked, walkFrom}
+use Rattle.single.specs.Single.{decidedAt}
 
 -- where a walk stopped and the table, as a pair
 abbrev pub bare : Walked → Stopped × List Entry

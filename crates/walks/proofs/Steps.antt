@@ -7,7 +7,7 @@ use mathlib.Core.List.{List}
 use Prim.Native.Nat.{ℕ, _<_}
 use Rattle.answers.specs.declared.Answer.{Answer}
 use Rattle.answers.specs.declared.Answer.the-variants.{FrameEncoding, ProtocolViolation}
-use Rattle.frames.specs.declared.Kind.{Kind}
+use Rattle.kinds.specs.declared.Kind.{Kind}
 use Rattle.frames.specs.declared.Reading.{Reading}
 use Rattle.frames.specs.declared.Reading.the-variants.{Got, Refused}
 use Rattle.frames.specs.Reading.{frameAt}
@@ -18,7 +18,7 @@ use Rattle.entries.specs.declared.Entry.{Entry}
 use Rattle.entries.specs.Entry.{entryAt}
 use Rattle.verdicts.specs.Verdict.{settledOf, judgedOf}
 use Rattle.steps.specs.Step.{requestOf, requestAt, decidedOf}
-use Rattle.walks.specs.Walk.{decidedAt, steppedAt}
+use Rattle.single.specs.Single.{decidedAt, steppedAt}
 
 -- a frame after which the connection is open was read, and ends above its place
 pub steps-on : (c : Conn) (t : List Entry) (s : List ℕ) (at : ℕ) (kind : Kind) → steppedAt c t s at kind .more ≡ true → at < steppedAt c t s at kind .next

@@ -10,12 +10,8 @@ use prog.Routine.{Routine}
 use prog.Wp.{Heap}
 use Rattle.answers.specs.Firm.{FirmClauses}
 use Rattle.answers.proofs.Firm.{clauses-equations}
-use Rattle.walks.proofs.step as stepping
 use Rattle.walks.proofs.walk as walking
 
 module _ {M : Type 1} (𝓤 : URA M) (H : Heap 𝓤) (A : Atoms 𝓤) (mem : Memory → SProp 𝓤) (run : Routine → Fun 𝓤) where
-  pub step-firm : FirmClauses 𝓤 stepping.ended (stepping.clauses 𝓤 H A mem run)
-  step-firm = clauses-equations (λ κs a w. (tt, (w, (tt, (tt, (tt, tt)))))) refl
-
   pub walk-firm : FirmClauses 𝓤 walking.ended (walking.clauses 𝓤 H A mem run)
   walk-firm = clauses-equations (λ κs a w. (tt, (w, (tt, (tt, (tt, tt)))))) refl

@@ -1,29 +1,16 @@
--- The walk over the frames of a payload, document 01: "The walk stops at the first frame that is refused: frames before it stay applied, it changes nothing itself".
+-- The walk over the frames of a payload, docs/RULES.md, "Taking a packet": "The walk stops at the first frame that is refused: frames before it stay applied, it changes nothing itself".
 use Prim.Native.Nat.{ℕ, zero, suc, _-_}
 use mathlib.Core.List.{List}
-use lib.ListN.{length, set}
+use lib.ListN.{length}
 use lib.Dec.{leb}
 use Rattle.answers.specs.Choice.{_⇒_∣_}
 use Rattle.answers.specs.declared.Answer.{Answer}
 use Rattle.answers.specs.declared.Answer.the-variants.{Accepted}
-use Rattle.frames.specs.declared.Kind.{Kind}
+use Rattle.kinds.specs.declared.Kind.{Kind}
 use Rattle.streams.specs.declared.Conn.{Conn}
 use Rattle.entries.specs.declared.Entry.{Entry}
-use Rattle.entries.specs.Entry.{entryAt}
-use Rattle.steps.specs.declared.Stepped.{Stepped}
 use Rattle.steps.specs.declared.Stopped.{Stopped}
-use Rattle.steps.specs.declared.Decided.{Decided}
-use Rattle.steps.specs.Step.{requestAt, decidedOf}
-
--- one frame, judged with the entry that it looks at
-unfoldable pub decidedAt : Conn → List Entry → List ℕ → ℕ → Kind → Decided
-decidedAt c t s at kind = decidedOf c (entryAt t (requestAt s at kind .place)) (requestAt s at kind)
-
-abbrev pub steppedAt : Conn → List Entry → List ℕ → ℕ → Kind → Stepped
-steppedAt c t s at kind = decidedAt c t s at kind .stepped
-
-abbrev pub stepTable : Conn → List Entry → List ℕ → ℕ → Kind → List Entry
-stepTable c t s at kind = set t (requestAt s at kind .place) (decidedAt c t s at kind .entry)
+use Rattle.single.specs.Single.{steppedAt, stepTable}
 
 abbrev pub stopped : Conn → ℕ → Answer → Stopped
 stopped c place answer = record { conn = c; place = place; answer = answer }

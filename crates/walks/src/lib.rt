@@ -1,11 +1,9 @@
-// One frame on the lent table, and the walk over all frames of a payload. Whether the table fits is asked before, by the call
-// that takes a frame or a packet: a frame whose entry is not there is judged as if it were as opening sets it with no credit.
+// The walk over all frames of a payload on the lent table (docs/RULES.md, "Taking a packet").
 ghost use mathlib.Core.Path.{_≡_};
-ghost use Rattle.walks.specs.Walk.{steppedAt, stepTable, stoppedOf, walkTable};
+ghost use Rattle.walks.specs.Walk.{stoppedOf, walkTable};
 use answers::Answer;
 use entries::Entry;
-use frames::Kind;
-use steps::Stepped;
+use kinds::Kind;
 use steps::Stopped;
 use streams::Conn;
 
@@ -13,26 +11,6 @@ use streams::Conn;
 pub struct Stop {
     pub place: usize,
     pub answer: Answer,
-}
-
-// The frame at a place, judged with the entry that it looks at.
-pub fn step(c: Conn, t: &mut [Entry], s: &[u8], at: usize, kind: Kind) -> Stepped
-    ensures { λ r. ⌜ (r ≡ steppedAt c (now (t .entry)) (now (s .entry)) at kind) × (now (t .exit) ≡ stepTable c (now (t .entry)) (now (s .entry)) at kind) ⌝ }
-{
-    let a = steps::frame::request(s, at, kind);
-    let i = a.place;
-    if t.len() <= i {
-        let none = Entry {
-            credit: 0,
-            end: 0,
-            size: Entry::UNKNOWN,
-        };
-        let alone = steps::frame::decide(c, none, a);
-        return alone.stepped;
-    }
-    let j = steps::frame::decide(c, t[i], a);
-    t[i] = j.entry;
-    j.stepped
 }
 
 // The walk over the frames from a place on: it stops at the first that is refused, and at one that closes the connection.
@@ -49,7 +27,7 @@ pub fn walk(c: Conn, t: &mut [Entry], s: &[u8], from: usize, kind: Kind) -> Stop
                 answer: Answer::Accepted,
             };
         }
-        let r = step(conn, t, s, at, kind);
+        let r = single::step(conn, t, s, at, kind);
         conn = r.conn;
         if !r.more {
             break 'walk Stop {

@@ -1,4 +1,4 @@
--- Document 01's rules of a packet record at their borders, from both sides: they hold the definitions to the document. Beside each, its sentence.
+-- The rules of a packet record at their borders, from both sides: they hold the definitions to docs/RULES.md. Beside each, its sentence.
 use mathlib.Core.Path.{_≡_}
 use mathlib.Core.Bool.{true, false}
 use mathlib.Core.List.{List, [], _∷_, _++_, map}

@@ -1,4 +1,4 @@
--- Whether a number stands in its shortest form is told by its value and its two places (W2): the test holds exactly where the bytes there are that form; and no bytes that read as the number are fewer.
+-- Whether a number stands in its shortest form is told by its value and its two places: the test holds exactly where the bytes there are that form; and no bytes that read as the number are fewer.
 -- Assumes nothing.
 use mathlib.Core.Path.{_≡_, refl, _∙_}
 use mathlib.Core.Bool.{true}

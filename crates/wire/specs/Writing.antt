@@ -1,4 +1,4 @@
--- What every writer answers and leaves (document 01, "Answer numbers", 108 and 109): what can never be written is refused first, then too little room is 108;
+-- What every writer answers and leaves (docs/RULES.md, "Answer numbers", 108 and 109): what can never be written is refused first, then too little room is 108;
 -- else all the bytes stand at the place and all else is as it was, and after a refusal all is as it was.
 use mathlib.Core.Path.{_≡_}
 use Prim.Native.Nat.{ℕ, _+_, _-_, _^_, _≤_}

@@ -42,7 +42,7 @@ use denote.Triple.Walked.{says, Stays, stay-none, walkOf, goes-none, Walks, ends
 use denote.Exit.{yes}
 use Rattle.tables.proofs.Leave.{stand, leaves}
 use Rattle.opening.specs.Opening.{openingWhen}
-use Rattle.local.specs.Table.{openedTable}
+use Rattle.tables.specs.Opened.{openedTable}
 use Rattle.owned.specs.Owned.{ownedOpenedOf}
 use Rattle.tables.proofs.Lent.{ref, vals}
 use Rattle.owned.specs.declared.OwnedOpened.{OwnedOpened}
@@ -59,11 +59,11 @@ use Rattle.owned.proofs.open as f
 use Rattle.owned.proofs.open.Statement as stated
 use Rattle.owned.proofs.open.Code as code
 use Rattle.owned.proofs.open.Code.Mir as mir
-use Rattle.local.proofs.open.Symbol as open-def
-use Rattle.local.proofs.open.Symbol.{name as #open}
-use Rattle.local.proofs.open.Met as open-thm
+use Rattle.tables.proofs.open.Symbol as open-def
+use Rattle.tables.proofs.open.Symbol.{name as #open}
+use Rattle.tables.proofs.open.Met as open-thm
 use Rattle.tables.proofs.Handed.{lends-mut-fn}
-use Rattle.local.proofs.open as open-fn
+use Rattle.tables.proofs.open as open-fn
 use mathlib.Core.Bool.{true}
 
 abbrev stayed : Stays (f.ended .signature .params) (f.ended .kept)
@@ -166,4 +166,4 @@ open-spec 𝓤 H 𝓜 𝓖 𝓡 =
     entered 𝓤 H (tripleOf 𝓤 H (𝓖 .A) f.signature (f.spec 𝓤 H (𝓖 .A) (𝓜 .mem) (𝓡 .run)))
     (tables 𝓤 H 𝓜 𝓡 code.env .C) (tables 𝓤 H 𝓜 𝓡 code.env .Λ) #f code.function (code.unfolded 𝓤 H 𝓜 𝓡)
     (f-meets 𝓤 H (𝓖 .A) (givenOf 𝓤 H 𝓜 𝓖) (𝓜 .mem) (𝓡 .run) (tablesOf 𝓤 H 𝓜 (tables 𝓤 H 𝓜 𝓡 code.env))
-    (cited 𝓤 H (Open 𝓤 H (𝓖 .A) (𝓜 .mem) (𝓡 .run)) 𝓜 𝓡 code.env #open open-def.routine code.calls-local·open (open-thm.met 𝓤 H 𝓜 𝓖 𝓡)))
+    (cited 𝓤 H (Open 𝓤 H (𝓖 .A) (𝓜 .mem) (𝓡 .run)) 𝓜 𝓡 code.env #open open-def.routine code.calls-tables·open (open-thm.met 𝓤 H 𝓜 𝓖 𝓡)))

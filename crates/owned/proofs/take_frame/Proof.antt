@@ -42,15 +42,15 @@ use denote.Triple.Table.{entered, cited}
 use denote.Triple.Walked.{says, Stays, stay-none-slice, stay-none, walkOf, goes-none-slice, goes-none, Walks, ends-at, walked, walk-meets}
 use denote.Exit.{yes}
 use Rattle.tables.proofs.Leave.{leaves}
-use Rattle.receive.specs.Taking.{tookFrameOf, frameTable}
+use Rattle.single.specs.Single.{tookFrameOf, frameTable}
 use Rattle.owned.specs.Owned.{ownedFrameOf}
 use Rattle.tables.proofs.Lent.{ref, vals}
 use Rattle.streams.specs.declared.Conn.{Conn}
 use Rattle.streams.proofs.Conn as TConn
 use Rattle.streams.proofs.Conn.Laws as TConn′
-use Rattle.frames.specs.declared.Kind.{Kind}
-use Rattle.frames.proofs.Kind as TKind
-use Rattle.frames.proofs.Kind.Laws as TKind′
+use Rattle.kinds.specs.declared.Kind.{Kind}
+use Rattle.kinds.proofs.Kind as TKind
+use Rattle.kinds.proofs.Kind.Laws as TKind′
 use Rattle.owned.specs.declared.OwnedFrame.{OwnedFrame}
 use Rattle.owned.proofs.OwnedFrame as TOwnedFrame
 use Rattle.owned.proofs.OwnedFrame.Laws as TOwnedFrame′
@@ -65,11 +65,11 @@ use Rattle.owned.proofs.take_frame as f
 use Rattle.owned.proofs.take_frame.Statement as stated
 use Rattle.owned.proofs.take_frame.Code as code
 use Rattle.owned.proofs.take_frame.Code.Mir as mir
-use Rattle.receive.proofs.take_frame.Symbol as frame-def
-use Rattle.receive.proofs.take_frame.Symbol.{name as #frame}
-use Rattle.receive.proofs.take_frame.Met as frame-thm
+use Rattle.single.proofs.take_frame.Symbol as frame-def
+use Rattle.single.proofs.take_frame.Symbol.{name as #frame}
+use Rattle.single.proofs.take_frame.Met as frame-thm
 use Rattle.tables.proofs.Handed.{lends-with-fn}
-use Rattle.receive.proofs.take_frame as frame-fn
+use Rattle.single.proofs.take_frame as frame-fn
 use mathlib.Core.Bool.{true, false}
 
 abbrev stayed : Stays (f.ended .signature .params) (f.ended .kept)
@@ -181,4 +181,4 @@ take-frame-spec 𝓤 H 𝓜 𝓖 𝓡 =
     entered 𝓤 H (tripleOf 𝓤 H (𝓖 .A) f.signature (f.spec 𝓤 H (𝓖 .A) (𝓜 .mem) (𝓡 .run)))
     (tables 𝓤 H 𝓜 𝓡 code.env .C) (tables 𝓤 H 𝓜 𝓡 code.env .Λ) #f code.function (code.unfolded 𝓤 H 𝓜 𝓡)
     (f-meets 𝓤 H (𝓖 .A) (givenOf 𝓤 H 𝓜 𝓖) (𝓜 .mem) (𝓡 .run) (tablesOf 𝓤 H 𝓜 (tables 𝓤 H 𝓜 𝓡 code.env))
-    (cited 𝓤 H (Frame 𝓤 H (𝓖 .A) (𝓜 .mem) (𝓡 .run)) 𝓜 𝓡 code.env #frame frame-def.routine code.calls-receive·take-frame (frame-thm.met 𝓤 H 𝓜 𝓖 𝓡)))
+    (cited 𝓤 H (Frame 𝓤 H (𝓖 .A) (𝓜 .mem) (𝓡 .run)) 𝓜 𝓡 code.env #frame frame-def.routine code.calls-single·take-frame (frame-thm.met 𝓤 H 𝓜 𝓖 𝓡)))

@@ -87,8 +87,8 @@ use Rattle.tables.proofs.fits as fits-fn
 use Rattle.packets.proofs.checks.begin as begin-fn
 use Rattle.walks.proofs.walk as walk-fn
 use denote.Enum.Laws as EL
-use Rattle.frames.proofs.Kind as TKind
-use Rattle.frames.proofs.Kind.Laws as TKind′
+use Rattle.kinds.proofs.Kind as TKind
+use Rattle.kinds.proofs.Kind.Laws as TKind′
 
 abbrev stayed : Stays (f.ended .signature .params) (f.ended .kept)
 stayed = (stay-none (λ _. TConn.the-row) yes, (stay-none (λ _. TRecords.the-row) yes, (stay-slice (0 ∷ []) tt (plain (λ _. TEntry.the-row)), (stay-none (λ _. u8) yes, (stay-none-slice (1 ∷ []) tt (plain (λ _. u8)) yes, tt)))))

@@ -3,7 +3,7 @@
 use borrow.Author.Needs.{needs}
 use mathlib.Core.Path.{ap}
 use Rattle.records.specs.declared.Taken.{Taken}
-use Rattle.streams.specs.declared.Space.the-variants.{Initial, Handshake, Application}
+use Rattle.kinds.specs.declared.Space.the-variants.{Initial, Handshake, Application}
 use Rattle.spaces.specs.Spaces.{withRecord, recordedOf}
 use Rattle.spaces.proofs.Shared.{shared}
 use Rattle.spaces.proofs.recorded.Statement.{statement}

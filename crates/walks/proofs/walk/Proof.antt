@@ -52,7 +52,8 @@ use Rattle.answers.specs.declared.Answer.the-variants.{Accepted}
 use Rattle.streams.specs.Conn.{isOpen}
 use Rattle.steps.specs.Past.{pastPadding}
 use Rattle.tables.proofs.Leave.{leaves}
-use Rattle.walks.specs.Walk.{steppedAt, stepTable, stopped, walkFrom, walkAll, stoppedOf, walkTable}
+use Rattle.walks.specs.Walk.{stopped, walkFrom, walkAll, stoppedOf, walkTable}
+use Rattle.single.specs.Single.{steppedAt, stepTable}
 use Rattle.tables.proofs.Cases.{holds, fails, not-not, splits}
 use Rattle.tables.proofs.Lent.{ref, vals}
 use Rattle.walks.proofs.Padding.{bare, reached, Further}
@@ -61,9 +62,9 @@ use Rattle.walks.proofs.Steps.{steps-on}
 use Rattle.streams.specs.declared.Conn.{Conn}
 use Rattle.streams.proofs.Conn as TConn
 use Rattle.streams.proofs.Conn.Laws as TConn′
-use Rattle.frames.specs.declared.Kind.{Kind}
-use Rattle.frames.proofs.Kind as TKind
-use Rattle.frames.proofs.Kind.Laws as TKind′
+use Rattle.kinds.specs.declared.Kind.{Kind}
+use Rattle.kinds.proofs.Kind as TKind
+use Rattle.kinds.proofs.Kind.Laws as TKind′
 use Rattle.steps.specs.declared.Stopped.{Stopped}
 use Rattle.steps.proofs.Stopped as TStopped
 use Rattle.steps.proofs.Stopped.Laws as TStopped′
@@ -85,11 +86,11 @@ use Rattle.walks.proofs.walk.Code.Mir as mir
 use Rattle.steps.proofs.frame.past_padding.Symbol as past-def
 use Rattle.steps.proofs.frame.past_padding.Symbol.{name as #past}
 use Rattle.steps.proofs.frame.past_padding.Met as past-thm
-use Rattle.walks.proofs.step.Symbol as step-def
-use Rattle.walks.proofs.step.Symbol.{name as #step}
-use Rattle.walks.proofs.step.Met as step-thm
+use Rattle.single.proofs.step.Symbol as step-def
+use Rattle.single.proofs.step.Symbol.{name as #step}
+use Rattle.single.proofs.step.Met as step-thm
 use Rattle.tables.proofs.Handed.{lends-with-fn, gives-fn}
-use Rattle.walks.proofs.step as step-fn
+use Rattle.single.proofs.step as step-fn
 use Rattle.steps.proofs.frame.past_padding as past-fn
 use Rattle.streams.proofs.Mark as TMark
 use Rattle.streams.proofs.Mark.Laws as TMark′
@@ -373,4 +374,4 @@ walk-spec 𝓤 H 𝓜 𝓖 𝓡 =
     (tables 𝓤 H 𝓜 𝓡 code.env .C) (tables 𝓤 H 𝓜 𝓡 code.env .Λ) #f code.function (code.unfolded 𝓤 H 𝓜 𝓡)
     (f-meets 𝓤 H (𝓖 .A) (givenOf 𝓤 H 𝓜 𝓖) (𝓜 .mem) (𝓡 .run) (tablesOf 𝓤 H 𝓜 (tables 𝓤 H 𝓜 𝓡 code.env))
     (cited 𝓤 H (Past 𝓤 H (𝓖 .A) (𝓜 .mem) (𝓡 .run)) 𝓜 𝓡 code.env #past past-def.routine code.calls-steps·frame·past-padding (past-thm.met 𝓤 H 𝓜 𝓖 𝓡))
-    (cited 𝓤 H (Step 𝓤 H (𝓖 .A) (𝓜 .mem) (𝓡 .run)) 𝓜 𝓡 code.env #step step-def.routine code.calls-walks·step (step-thm.met 𝓤 H 𝓜 𝓖 𝓡)))
+    (cited 𝓤 H (Step 𝓤 H (𝓖 .A) (𝓜 .mem) (𝓡 .run)) 𝓜 𝓡 code.env #step step-def.routine code.calls-single·step (step-thm.met 𝓤 H 𝓜 𝓖 𝓡)))

@@ -1,7 +1,7 @@
 -- `packets::checks::by_kind` meets its contract: the match takes the record of the packet's space.
 -- Assumes nothing.
 use mathlib.Core.Path.{ap}
-use Rattle.streams.specs.Conn.{spaceOf}
+use Rattle.kinds.specs.Kinds.{spaceOf}
 use Rattle.spaces.proofs.Shared.{shared}
 use Rattle.packets.proofs.checks.by_kind.Statement.{statement}
 use Rattle.packets.proofs.checks.by_kind.Tie as tie

@@ -11,7 +11,7 @@ use Rattle.answers.proofs.Choice.{through}
 use Rattle.wire.specs.Number.{bigEndian, fieldAt, plainAt, withNumber}
 use Rattle.wire.specs.declared.Number.{Number}
 use Rattle.wire.specs.declared.Number.the-variants.{Is, CutShort}
-use Rattle.frames.specs.declared.Kind.{Kind}
+use Rattle.kinds.specs.declared.Kind.{Kind}
 use Rattle.numbers.specs.Numbers.{bytesIn, recoveredOf}
 use Rattle.records.specs.declared.Record.{Record}
 use Rattle.records.specs.Marks.{testOf}

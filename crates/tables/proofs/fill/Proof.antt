@@ -55,23 +55,23 @@ use Rattle.streams.proofs.Limits.Laws as TLimits′
 use Rattle.entries.specs.Entry.{fresh}
 use Rattle.halves.specs.Stream.{mostStreams}
 use Rattle.streams.specs.Conn.{initialOf}
 use Rattle.tables.proofs.Leave.{leaves}
-use Rattle.local.specs.Table.{filledTo}
+use Rattle.tables.specs.Opened.{filledTo}
 use Rattle.tables.proofs.Cases.{cases, is-true, is-false}
 use Rattle.entries.specs.declared.Entry.{Entry}
 use Rattle.entries.proofs.Entry as TEntry
 use Rattle.entries.proofs.Entry.Laws as TEntry′
-use Rattle.local.proofs.fill.Key.{name as #f}
-use Rattle.local.proofs.fill as f
-use Rattle.local.proofs.fill.Statement as stated
-use Rattle.local.proofs.fill.Code as code
-use Rattle.local.proofs.fill.Code.Mir as mir
+use Rattle.tables.proofs.fill.Key.{name as #f}
+use Rattle.tables.proofs.fill as f
+use Rattle.tables.proofs.fill.Statement as stated
+use Rattle.tables.proofs.fill.Code as code
+use Rattle.tables.proofs.fill.Code.Mir as mir
 use Rattle.opening.proofs.entry.Symbol as entry-def
 use Rattle.opening.proofs.entry.Symbol.{name as #entry}
 use Rattle.opening.proofs.entry.Met as entry-thm
 use Rattle.tables.proofs.Lent.{vals}
 use Rattle.opening.proofs.entry as entry-fn
 use Rattle.tables.proofs.Handed.{calls-fn}
 
 abbrev stayed : Stays (f.ended .signature .params) (f.ended .kept)
 stayed = (stay-slice (0 ∷ []) tt (plain (λ _. TEntry.the-row)), (stay-none (λ _. usize) yes, (stay-none (λ _. TLimits.the-row) yes, tt)))

@@ -1,4 +1,4 @@
--- `local::open` meets its contract: the connection is opened as ruled, and as many entries are set as it says.
+-- `tables::open` meets its contract: the connection is opened as ruled, and as many entries are set as it says.
 -- Assumes nothing.
 use mathlib.Core.Path.{_≡_, refl, sym, ap, subst}
 use Prim.Native.Nat.{ℕ}
@@ -43,36 +43,36 @@ use Rattle.streams.specs.declared.Limits.{Limits}
 use Rattle.streams.proofs.Limits as TLimits
 use Rattle.streams.proofs.Limits.Laws as TLimits′
 use Rattle.opening.specs.Opening.{openingWhen, entriesOf}
 use Rattle.tables.proofs.Leave.{stand, leaves}
-use Rattle.local.specs.Table.{filledTo, openedTable}
+use Rattle.tables.specs.Opened.{filledTo, openedTable}
 use Rattle.tables.proofs.Lent.{vals, ref}
-use Rattle.local.proofs.Within.{entries-within}
+use Rattle.tables.proofs.Within.{entries-within}
 use Rattle.opening.specs.declared.Opened.{Opened}
 use Rattle.opening.proofs.Opened as TOpened
 use Rattle.opening.proofs.Opened.Laws as TOpened′
 use Rattle.entries.specs.declared.Entry.{Entry}
 use Rattle.entries.proofs.Entry as TEntry
-use Rattle.local.proofs.open.Key.{name as #f}
-use Rattle.local.proofs.open as f
-use Rattle.local.proofs.open.Statement as stated
-use Rattle.local.proofs.open.Code as code
-use Rattle.local.proofs.open.Code.Mir as mir
+use Rattle.tables.proofs.open.Key.{name as #f}
+use Rattle.tables.proofs.open as f
+use Rattle.tables.proofs.open.Statement as stated
+use Rattle.tables.proofs.open.Code as code
+use Rattle.tables.proofs.open.Code.Mir as mir
 use Rattle.opening.proofs.for_table.Symbol as for-table-def
 use Rattle.opening.proofs.for_table.Symbol.{name as #for-table}
 use Rattle.opening.proofs.for_table.Met as for-table-thm
 use Rattle.opening.proofs.count.Symbol as count-def
 use Rattle.opening.proofs.count.Symbol.{name as #count}
 use Rattle.opening.proofs.count.Met as count-thm
-use Rattle.local.proofs.fill.Symbol as fill-def
-use Rattle.local.proofs.fill.Symbol.{name as #fill}
-use Rattle.local.proofs.fill.Met as fill-thm
+use Rattle.tables.proofs.fill.Symbol as fill-def
+use Rattle.tables.proofs.fill.Symbol.{name as #fill}
+use Rattle.tables.proofs.fill.Met as fill-thm
 use denote.Enum.Laws as EL
 use Rattle.answers.proofs.Answer as TAnswer
 use Rattle.answers.proofs.Answer.Laws as TAnswer′
 use Rattle.opening.proofs.count as count-fn
 use Rattle.opening.proofs.for_table as for-table-fn
 use Rattle.tables.proofs.Handed.{lends-mut-fn, calls-fn}
-use Rattle.local.proofs.fill as fill-fn
+use Rattle.tables.proofs.fill as fill-fn
 use mathlib.Core.Bool.{true}
 
 abbrev stayed : Stays (f.ended .signature .params) (f.ended .kept)
@@ -181,4 +181,4 @@ open-spec 𝓤 H 𝓜 𝓖 𝓡 =
     (f-meets 𝓤 H (𝓖 .A) (givenOf 𝓤 H 𝓜 𝓖) (𝓜 .mem) (𝓡 .run) (tablesOf 𝓤 H 𝓜 (tables 𝓤 H 𝓜 𝓡 code.env))
     (cited 𝓤 H (ForTable 𝓤 H (𝓖 .A) (𝓜 .mem) (𝓡 .run)) 𝓜 𝓡 code.env #for-table for-table-def.routine code.calls-opening·for-table (for-table-thm.met 𝓤 H 𝓜 𝓖 𝓡))
     (cited 𝓤 H (Counts 𝓤 H (𝓖 .A) (𝓜 .mem) (𝓡 .run)) 𝓜 𝓡 code.env #count count-def.routine code.calls-opening·count (count-thm.met 𝓤 H 𝓜 𝓖 𝓡))
-    (cited 𝓤 H (Fill 𝓤 H (𝓖 .A) (𝓜 .mem) (𝓡 .run)) 𝓜 𝓡 code.env #fill fill-def.routine code.calls-local·fill (fill-thm.met 𝓤 H 𝓜 𝓖 𝓡)))
+    (cited 𝓤 H (Fill 𝓤 H (𝓖 .A) (𝓜 .mem) (𝓡 .run)) 𝓜 𝓡 code.env #fill fill-def.routine code.calls-tables·fill (fill-thm.met 𝓤 H 𝓜 𝓖 𝓡)))

@@ -1,4 +1,4 @@
--- `owned::take_packet` meets its contract: the table is lent, and what the call leaves of it is handed back.
+-- `owned_calls::take_packet` meets its contract: the table is lent, and what the call leaves of it is handed back.
 -- Assumes nothing.
 use mathlib.Core.Path.{_≡_, refl, sym, subst, _∙_}
 use Prim.Native.Nat.{ℕ, _<_, _^_}
@@ -42,7 +42,7 @@ use denote.Triple.Walked.{says, Stays, stay-none-slice, stay-none, walkOf, goes-
 use denote.Exit.{yes}
 use Rattle.tables.proofs.Leave.{leaves}
 use Rattle.receive.specs.Taking.{tookOf, tookTable}
-use Rattle.owned.specs.Owned.{ownedPacketOf}
+use Rattle.owned_calls.specs.Owned.{ownedPacketOf}
 use Rattle.tables.proofs.Lent.{ref, vals}
 use Rattle.streams.specs.declared.Conn.{Conn}
 use Rattle.streams.proofs.Conn as TConn
@@ -50,20 +50,20 @@ use Rattle.streams.proofs.Conn.Laws as TConn′
 use Rattle.spaces.specs.declared.Records.{Records}
 use Rattle.spaces.proofs.Records as TRecords
 use Rattle.spaces.proofs.Records.Laws as TRecords′
-use Rattle.owned.specs.declared.OwnedPacket.{OwnedPacket}
-use Rattle.owned.proofs.OwnedPacket as TOwnedPacket
-use Rattle.owned.proofs.OwnedPacket.Laws as TOwnedPacket′
+use Rattle.owned_calls.specs.declared.OwnedPacket.{OwnedPacket}
+use Rattle.owned_calls.proofs.OwnedPacket as TOwnedPacket
+use Rattle.owned_calls.proofs.OwnedPacket.Laws as TOwnedPacket′
 use Rattle.endings.specs.declared.Took.{Took}
 use Rattle.endings.proofs.Took as TTook
 use Rattle.endings.proofs.Took.Laws as TTook′
 use Rattle.entries.specs.declared.Entry.{Entry}
 use Rattle.entries.proofs.Entry as TEntry
 use Rattle.entries.proofs.Entry.Laws as TEntry′
-use Rattle.owned.proofs.take_packet.Key.{name as #f}
-use Rattle.owned.proofs.take_packet as f
-use Rattle.owned.proofs.take_packet.Statement as stated
-use Rattle.owned.proofs.take_packet.Code as code
-use Rattle.owned.proofs.take_packet.Code.Mir as mir
+use Rattle.owned_calls.proofs.take_packet.Key.{name as #f}
+use Rattle.owned_calls.proofs.take_packet as f
+use Rattle.owned_calls.proofs.take_packet.Statement as stated
+use Rattle.owned_calls.proofs.take_packet.Code as code
+use Rattle.owned_calls.proofs.take_packet.Code.Mir as mir
 use Rattle.receive.proofs.take_packet.Symbol as packet-def
 use Rattle.receive.proofs.take_packet.Symbol.{name as #packet}
 use Rattle.receive.proofs.take_packet.Met as packet-thm

@@ -1,4 +1,4 @@
--- `walks::step` meets its contract: what the frame asks names the place of its entry, which is taken out, judged and put back.
+-- `single::step` meets its contract: what the frame asks names the place of its entry, which is taken out, judged and put back.
 -- Assumes nothing.
 use mathlib.Core.Path.{_≡_, refl, sym, ap, subst}
 use Prim.Native.Nat.{ℕ, _*_, _<_, _^_, _≤_}
@@ -44,13 +44,13 @@ use denote.Exit.{yes}
 use Rattle.entries.specs.Entry.{fresh, entryAt}
 use Rattle.steps.specs.Step.{requestAt, decidedOf}
 use Rattle.tables.proofs.Leave.{leaves, stand}
-use Rattle.walks.specs.Walk.{decidedAt, steppedAt, stepTable}
+use Rattle.single.specs.Single.{decidedAt, steppedAt, stepTable}
 use Rattle.streams.specs.declared.Conn.{Conn}
 use Rattle.streams.proofs.Conn as TConn
 use Rattle.streams.proofs.Conn.Laws as TConn′
-use Rattle.frames.specs.declared.Kind.{Kind}
-use Rattle.frames.proofs.Kind as TKind
-use Rattle.frames.proofs.Kind.Laws as TKind′
+use Rattle.kinds.specs.declared.Kind.{Kind}
+use Rattle.kinds.proofs.Kind as TKind
+use Rattle.kinds.proofs.Kind.Laws as TKind′
 use Rattle.steps.specs.declared.Stepped.{Stepped}
 use Rattle.steps.proofs.Stepped as TStepped
 use Rattle.steps.proofs.Stepped.Laws as TStepped′
@@ -63,11 +63,11 @@ use Rattle.steps.proofs.Decided.Laws as TDecided′
 use Rattle.entries.specs.declared.Entry.{Entry}
 use Rattle.entries.proofs.Entry as TEntry
 use Rattle.entries.proofs.Entry.Laws as TEntry′
-use Rattle.walks.proofs.step.Key.{name as #f}
-use Rattle.walks.proofs.step as f
-use Rattle.walks.proofs.step.Statement as stated
-use Rattle.walks.proofs.step.Code as code
-use Rattle.walks.proofs.step.Code.Mir as mir
+use Rattle.single.proofs.step.Key.{name as #f}
+use Rattle.single.proofs.step as f
+use Rattle.single.proofs.step.Statement as stated
+use Rattle.single.proofs.step.Code as code
+use Rattle.single.proofs.step.Code.Mir as mir
 use Rattle.steps.proofs.frame.request.Symbol as request-def
 use Rattle.steps.proofs.frame.request.Symbol.{name as #request}
 use Rattle.steps.proofs.frame.request.Met as request-thm

@@ -1,4 +1,4 @@
--- `owned::call` meets its contract: the table is lent, and what the call leaves of it is handed back.
+-- `owned_calls::call` meets its contract: the table is lent, and what the call leaves of it is handed back.
 -- Assumes nothing.
 use mathlib.Core.Path.{_≡_, refl, sym, subst, _∙_}
 use Prim.Native.Nat.{ℕ}
@@ -40,14 +40,14 @@ use denote.Triple.Walked.{says, Stays, stay-none, walkOf, goes-none, Walks, ends
 use denote.Exit.{yes}
 use Rattle.tables.proofs.Leave.{stand, leaves}
 use Rattle.local.specs.Calling.{calledAt, calledTable}
-use Rattle.owned.specs.Owned.{ownedCallOf}
+use Rattle.owned_calls.specs.Owned.{ownedCallOf}
 use Rattle.tables.proofs.Lent.{ref, vals}
 use Rattle.streams.specs.declared.Conn.{Conn}
 use Rattle.streams.proofs.Conn as TConn
 use Rattle.streams.proofs.Conn.Laws as TConn′
-use Rattle.owned.specs.declared.OwnedCall.{OwnedCall}
-use Rattle.owned.proofs.OwnedCall as TOwnedCall
-use Rattle.owned.proofs.OwnedCall.Laws as TOwnedCall′
+use Rattle.owned_calls.specs.declared.OwnedCall.{OwnedCall}
+use Rattle.owned_calls.proofs.OwnedCall as TOwnedCall
+use Rattle.owned_calls.proofs.OwnedCall.Laws as TOwnedCall′
 use Rattle.streams.specs.declared.Called.{Called}
 use Rattle.streams.proofs.Called as TCalled
 use Rattle.streams.proofs.Called.Laws as TCalled′
@@ -57,11 +57,11 @@ use Rattle.entries.proofs.Entry.Laws as TEntry′
 use Rattle.calls.specs.declared.Call.{Call}
 use Rattle.calls.proofs.Call as TCall
 use Rattle.calls.proofs.Call.Laws as TCall′
-use Rattle.owned.proofs.call.Key.{name as #f}
-use Rattle.owned.proofs.call as f
-use Rattle.owned.proofs.call.Statement as stated
-use Rattle.owned.proofs.call.Code as code
-use Rattle.owned.proofs.call.Code.Mir as mir
+use Rattle.owned_calls.proofs.call.Key.{name as #f}
+use Rattle.owned_calls.proofs.call as f
+use Rattle.owned_calls.proofs.call.Statement as stated
+use Rattle.owned_calls.proofs.call.Code as code
+use Rattle.owned_calls.proofs.call.Code.Mir as mir
 use Rattle.local.proofs.call.Symbol as call-def
 use Rattle.local.proofs.call.Symbol.{name as #call}
 use Rattle.local.proofs.call.Met as call-thm
