@@ -53,7 +53,7 @@ pub fn write(out: &mut [u8], at: usize, s: &[u8]) -> Wrote
 }
 
 // The half of a byte that a digit stands for, in either case; 16 for what is no digit.
-fn half(c: u8) -> u8
+pub fn half(c: u8) -> u8
     ensures { λ r. ⌜ r ≡ halfOf c ⌝ }
 {
     match c {
