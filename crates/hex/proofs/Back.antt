@@ -16,7 +16,7 @@ use Rattle.hex.specs.declared.Pairs.the-variants.{Are}
 use Rattle.hex.proofs.Halves.{digit-figure, digit-letter, half-figure, half-lower, is-half, length-hex}
 
 -- half a byte reads back
-half-back : (h : ℕ) → h < 16 → halfOf (digitOf h) ≡ h
+pub half-back : (h : ℕ) → h < 16 → halfOf (digitOf h) ≡ h
 half-back h l = below-or-not h 10
     (λ p. rw (digit-figure h p, half-figure (48 + h) (omega arith) (omega arith)) (omega arith))
     (λ p. rw (digit-letter h p, half-lower (87 + h) (omega arith) (omega arith)) (omega arith))

@@ -1,0 +1,3 @@
+pub mod Dump
+pub mod Spaced
+pub mod Borders
