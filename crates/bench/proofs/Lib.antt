@@ -3,3 +3,4 @@ pub mod Neighbours
 pub mod Packets
 pub mod Writers
 pub mod FirstBytes
+pub mod Listed

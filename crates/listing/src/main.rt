@@ -5,8 +5,8 @@ mod walk;
 fn main() {
     let mut input = io::large_buffer();
     let n = io::read_full(libc::STDIN_FILENO, &mut input);
+    output::heading(n);
     if report::taken::too_long(n) {
-        output::text(b"too long\n");
         return;
     }
     walk::list(&input[..n]);

@@ -1,17 +1,22 @@
-// What the listing writes: texts, what is gathered in a buffer, and the last line.
+// What the listing writes: what is gathered in a buffer, the first line and the last.
 use report::taken;
 use streams::Mark;
 use wire::Wrote;
 
-pub fn text(t: &[u8]) {
-    io::write_all(libc::STDOUT_FILENO, t);
-}
-
 // Writes what is gathered.
 pub fn flush(buf: &[u8], used: usize) {
     if used <= buf.len() {
-        text(&buf[..used]);
+        io::write_all(libc::STDOUT_FILENO, &buf[..used]);
     }
+}
+
+// The first line for a payload of n bytes.
+pub fn heading(n: usize) {
+    let mut line = [0u8; 32];
+    let Wrote::To { next } = taken::heading(&mut line, 0, n) else {
+        return;
+    };
+    flush(&line, next);
 }
 
 // The last line: how the connection stands.

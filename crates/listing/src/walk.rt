@@ -21,9 +21,8 @@ fn walk(first: Page, s: &[u8], buf: &mut [u8]) -> Mark {
     conn.mark
 }
 
-// Header, rows and last line.
+// Rows and last line.
 pub fn list(s: &[u8]) {
-    output::text(b"place type code total\n");
     let small = pages::small();
     let opened = small.opened;
     let conn = opened.conn;

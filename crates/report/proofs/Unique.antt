@@ -5,6 +5,8 @@ use Rattle.answers.specs.Firm.{Firm}
 use Rattle.answers.proofs.Firm.{equation, outcome-equation}
 use Rattle.report.proofs.taken.too_long.Kinds as too-long
 use Rattle.report.proofs.taken.too_long.Reads as too-long-reads
+use Rattle.report.proofs.taken.heading.Kinds as heading
+use Rattle.report.proofs.taken.heading.Reads as heading-reads
 use Rattle.report.proofs.taken.taken_row.Kinds as taken-row
 use Rattle.report.proofs.taken.taken_row.Reads as taken-row-reads
 use Rattle.report.proofs.taken.after.Kinds as after
@@ -16,6 +18,9 @@ use Rattle.report.proofs.taken.ending.Reads as ending-reads
 
 pub too-long-firm : Firm 0 too-long.ps too-long.r too-long-reads.Asked too-long-reads.Post
 too-long-firm = equation refl
+
+pub heading-firm : Firm 1 heading.ps heading.r heading-reads.Asked heading-reads.Post
+heading-firm = outcome-equation (λ κs a w. (w, (tt, (tt, tt)))) refl
 
 pub taken-row-firm : Firm 1 taken-row.ps taken-row.r taken-row-reads.Asked taken-row-reads.Post
 taken-row-firm = outcome-equation (λ κs a w. (w, (tt, (tt, (tt, tt))))) refl

@@ -20,6 +20,12 @@ use Rattle.columns.specs.declared.FrameType.the-variants.{Is, Unread}
 unfoldable pub tooLong : ℕ → Bool
 tooLong n = ltb 65527 n
 
+-- the first line: the header; "at most 65,527 bytes, else the sole line "too long""
+unfoldable pub headingOf : ℕ → List ℕ
+headingOf n =
+    tooLong n ⇒ 116 ∷ 111 ∷ 111 ∷ 32 ∷ 108 ∷ 111 ∷ 110 ∷ 103 ∷ 10 ∷ []
+    ∣ 112 ∷ 108 ∷ 97 ∷ 99 ∷ 101 ∷ 32 ∷ 116 ∷ 121 ∷ 112 ∷ 101 ∷ 32 ∷ 99 ∷ 111 ∷ 100 ∷ 101 ∷ 32 ∷ 116 ∷ 111 ∷ 116 ∷ 97 ∷ 108 ∷ 10 ∷ []
+
 -- "its type ("-" if unreadable)"
 unfoldable pub typeShown : Shown → FrameType
 typeShown Nothing = Unread

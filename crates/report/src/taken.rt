@@ -1,7 +1,7 @@
 // What the listing writes of a frame that was taken, where it goes on, and its last line.
 ghost use mathlib.Core.Path.{_≡_};
 ghost use Rattle.wire.specs.Writing.{Bytes, writes};
-ghost use Rattle.report.specs.Listing.{tooLong, typeShown, takenRowOf, afterOf, lastOf, endingOf};
+ghost use Rattle.report.specs.Listing.{tooLong, headingOf, typeShown, takenRowOf, afterOf, lastOf, endingOf};
 use answers::Answer;
 use columns::FrameType;
 use steps::Shown;
@@ -15,6 +15,17 @@ pub fn too_long(n: usize) -> bool
     ensures { λ r. ⌜ r ≡ tooLong n ⌝ }
 {
     65527 < n
+}
+
+// Writes the first line for a payload of n bytes: the header, or of one that is too long all that is said. A refusal leaves the
+// output untouched.
+pub fn heading(out: &mut [u8], at: usize, n: usize) -> Wrote
+    ensures { λ r. ⌜ (r, now (out .exit)) ≡ writes (Bytes (headingOf n)) (now (out .entry)) at ⌝ }
+{
+    if too_long(n) {
+        return put::bytes(out, at, b"too long\n");
+    }
+    put::bytes(out, at, b"place type code total\n")
 }
 
 fn type_shown(shown: Shown) -> FrameType

@@ -19,7 +19,7 @@ use Rattle.wire.proofs.Exit.{length-bytes}
 use Rattle.row.specs.Row.{bytesAll}
 use Rattle.row.proofs.Back.{length-all}
 use Rattle.ranges.specs.Listed.{listed, fits}
-use Rattle.ranges.proofs.Listed as ranges
+use Rattle.sizes.proofs.Listed as ranges
 use Rattle.layouts.specs.Body.{bodyAt, countedAt, rangedAt}
 use Rattle.layouts.specs.declared.Tail.{Tail}
 use Rattle.layouts.specs.declared.Tail.the-variants.{Nothing, Counted, Remainder, Eight, Identity, Ranges}

@@ -1,3 +1,4 @@
+pub mod Listed
 pub mod Bounds
 pub mod Bodies
 pub mod Listing

@@ -7,7 +7,7 @@ use borrow.Author.Needs.{needs}
 use lib.ListN.{length}
 use Rattle.row.specs.Row.{sizeAll}
 use Rattle.ranges.specs.Listed.{listed}
-use Rattle.ranges.proofs.Listed.{listed-size}
+use Rattle.sizes.proofs.Listed.{listed-size}
 use Rattle.sizes.proofs.Listing.{listed-none, listed-cut, size-more}
 use Rattle.sizes.proofs.pieces.listed_size.Statement.{statement}
 use Rattle.sizes.proofs.pieces.listed_size.Tie as tie

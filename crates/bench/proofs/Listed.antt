@@ -3,7 +3,7 @@
 use mathlib.Core.Path.{refl}
 use Rattle.text.specs.Decimal.{digitsOf, decimalOf}
 use Rattle.columns.specs.Row.{fieldOf, typeText, rowOf, closedText}
-use Rattle.report.specs.Listing.{tooLong, typeShown, takenRowOf, nextIn, afterOf, lastOf, endingOf}
+use Rattle.report.specs.Listing.{tooLong, headingOf, typeShown, takenRowOf, nextIn, afterOf, lastOf, endingOf}
 use Rattle.pages.specs.Pages.{smallOf, withRow, oneMoreOf, pageFrom, pageOf}
 use Rattle.wire.specs.Writing.{writes}
 use Rattle.wire.specs.Number.{numberAt, fieldAt, valuesIn, bigEndian, shortest, sizeOf, formOf}
@@ -31,10 +31,10 @@ use Rattle.steps.specs.Step.{requestOf, requestAt, decidedOf, shownOf, shownAt}
 use Rattle.tables.specs.Opened.{filledTo, openedTable}
 use Rattle.single.specs.Single.{decidedAt}
 use Rattle.single.specs.Single.{tookFrameOf, frameTable}
-use Rattle.listing.specs.Example.{Example}
+use Rattle.bench.specs.Listed.{Listed}
 
-pub example : Example
-unfolding numberAt fieldAt valuesIn bigEndian shortest sizeOf formOf layouts layoutOf known admitted numbersAt optionalAt sizedAt countedAt rangedAt faultOf aboveOf frameOf endedAt partsAt fieldsAt headAt frameAt idOf listed placeOf finalOf reached countOf limitsFit openingOf rule1 rule2 rule3 rule4 rule5 endsOf endOf verdictOf connHeard entryHeard settledOf judgedOf isFresh entryFitsAs openFit connFits sumTo allTo fits gateOf openingWhen entriesOf requestOf requestAt decidedOf filledTo openedTable decidedAt tookFrameOf frameTable shownOf shownAt writes digitsOf decimalOf fieldOf typeText rowOf typeShown takenRowOf nextIn afterOf closedText endingOf smallOf withRow oneMoreOf pageFrom pageOf lastOf tooLong
+pub example : Listed
+unfolding numberAt fieldAt valuesIn bigEndian shortest sizeOf formOf layouts layoutOf known admitted numbersAt optionalAt sizedAt countedAt rangedAt faultOf aboveOf frameOf endedAt partsAt fieldsAt headAt frameAt idOf listed placeOf finalOf reached countOf limitsFit openingOf rule1 rule2 rule3 rule4 rule5 endsOf endOf verdictOf connHeard entryHeard settledOf judgedOf isFresh entryFitsAs openFit connFits sumTo allTo fits gateOf openingWhen entriesOf requestOf requestAt decidedOf filledTo openedTable decidedAt tookFrameOf frameTable shownOf shownAt writes digitsOf decimalOf fieldOf typeText rowOf typeShown takenRowOf nextIn afterOf closedText endingOf smallOf withRow oneMoreOf pageFrom pageOf lastOf tooLong headingOf
 example = record {
   example = refl;
   stays-open = refl;
@@ -53,6 +53,8 @@ example = record {
   page-waits = refl;
   page-next = refl;
   too-long = refl;
+  heading = refl;
+  sole-line = refl;
   goes-on = refl;
   last = refl;
 }

@@ -11,7 +11,7 @@ use Rattle.streams.specs.declared.Mark.the-variants.{Open, Code, ByPeer}
 use Rattle.streams.specs.Conn.{markedAs}
 use Rattle.steps.specs.declared.Shown.{Shown}
 use Rattle.steps.specs.declared.Shown.the-variants.{Nothing, Typed, Whole}
-use Rattle.report.specs.Listing.{tooLong, afterOf, lastOf, endingOf}
+use Rattle.report.specs.Listing.{tooLong, headingOf, afterOf, lastOf, endingOf}
 use Rattle.pages.specs.Pages.{smallOf, pageOf}
 use Rattle.pages.specs.declared.Page.{Page}
 
@@ -31,7 +31,7 @@ written s = let r = paged 100 s in take (r .0 .used) (r .1) ++ endingOf (lastOf 
 abbrev pub goesOn : Mark → Shown → ℕ
 goesOn mark shown = afterOf (record { answer = Accepted; shown = shown; conn = markedAs (first .conn) mark }) 9
 
-pub record Example : Type 0 where
+pub record Listed : Type 0 where
   -- the example of docs/RULES.md: PING, STREAM "hello" on stream 0, and a RESET_STREAM of stream 0 at 20, which breaks its credit: "0 1 0 0", "1 10 0 5", "9 4 3 5", "closed 3"
   pub example : written (0x01 ∷ 0x0a ∷ 0x00 ∷ 0x05 ∷ 0x68 ∷ 0x65 ∷ 0x6c ∷ 0x6c ∷ 0x6f ∷ 0x04 ∷ 0x04 ∷ 0x00 ∷ 0x14 ∷ [])
       ≡ 48 ∷ 32 ∷ 49 ∷ 32 ∷ 48 ∷ 32 ∷ 48 ∷ 10 ∷ 49 ∷ 32 ∷ 49 ∷ 48 ∷ 32 ∷ 48 ∷ 32 ∷ 53 ∷ 10 ∷ 57 ∷ 32 ∷ 52 ∷ 32 ∷ 51 ∷ 32 ∷ 53 ∷ 10 ∷ 99 ∷ 108 ∷ 111 ∷ 115 ∷ 101 ∷ 100 ∷ 32 ∷ 51 ∷ 10 ∷ []
@@ -72,6 +72,8 @@ pub record Example : Type 0 where
   pub page-next : pageOf (paged 15 (1 ∷ 1 ∷ []) .0) (1 ∷ 1 ∷ []) (replicate 9 0) .1 ≡ 49 ∷ 32 ∷ 49 ∷ 32 ∷ 48 ∷ 32 ∷ 48 ∷ 10 ∷ 0 ∷ []
   -- "at most 65,527 bytes, else the sole line "too long""
   pub too-long : map tooLong (0 ∷ 65527 ∷ 65528 ∷ []) ≡ false ∷ false ∷ true ∷ []
+  pub heading : headingOf 65527 ≡ 112 ∷ 108 ∷ 97 ∷ 99 ∷ 101 ∷ 32 ∷ 116 ∷ 121 ∷ 112 ∷ 101 ∷ 32 ∷ 99 ∷ 111 ∷ 100 ∷ 101 ∷ 32 ∷ 116 ∷ 111 ∷ 116 ∷ 97 ∷ 108 ∷ 10 ∷ []
+  pub sole-line : headingOf 65528 ≡ 116 ∷ 111 ∷ 111 ∷ 32 ∷ 108 ∷ 111 ∷ 110 ∷ 103 ∷ 10 ∷ []
   -- the place after a frame that was shown whole, and else the end; and the end of a connection that is closed
   pub goes-on : map (goesOn Open) (Nothing ∷ Typed 1 ∷ Whole Ping 1 4 ∷ []) ++ map (λ mark. goesOn mark (Whole Ping 1 4)) (ByPeer ∷ Code ProtocolViolation 1 ∷ []) ≡ 9 ∷ 9 ∷ 4 ∷ 9 ∷ 9 ∷ []
   -- a payload without frames: code 10, "type 0 if none was read"; any other leaves the mark
