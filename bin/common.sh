@@ -73,14 +73,17 @@ prove() { # CRATE
     echo "$1 $? $(($(date +%s) - began))" >"$room/ended"
 }
 
-# Proves and builds programs: each crate as soon as those below it are proved, as many at once as there are processors.
+# Proves and builds programs: each crate as soon as those below it are proved, on all processors.
 build() { # MINUTES PROGRAM...
     minutes=$1
     shift
     room_of_its_own
     for part in rlib stamp obj bin; do mkdir -p -- "$top/target/$part" || fail "no folder $top/target/$part"; done
-    todo=$(way_to "$@") jobs=$(nproc 2>/dev/null || echo 1) running=0 count=0 proved=' ' start=$(date +%s)
+    todo=$(way_to "$@") running=0 count=0 proved=' ' start=$(date +%s)
     most=$(echo "$todo" | wc -l)
+    # as many as rt itself would run: a check takes up to 1 GB
+    jobs=${RT_JOBS:-$(nproc 2>/dev/null || echo 1)}
+    [ -n "${RT_JOBS:-}" ] || [ "$jobs" -le 4 ] || jobs=4
     echo "$name: proving the $most crates that it is made of, $jobs at a time, before it runs; from nothing that takes about $minutes minutes on two cores, and later runs start at once" >&2
     mkfifo -- "$room/ended" && exec 3<>"$room/ended" || fail "no pipe in $room"
     while [ "$count" -lt "$most" ]; do

@@ -25,7 +25,7 @@ use Rattle.halves.specs.Stream.{idOf, peers, mostStreams, listed, placeOf}
 use Rattle.entries.specs.Entry.{fresh, reached, credited, entryAt, entryOf}
 use Rattle.streams.specs.Conn.{limitedTo, advertisedOf, initialOf, withCount, openedOf, countOf, openTo, indexOf, nextOf, handedOn}
 use Rattle.opening.specs.Opening.{openedConn}
-use Rattle.views.specs.declared.View.the-variants.{Ends, Blocks, ForSender, Acks, Closes, Nothing}
+use Rattle.rules.specs.declared.View.the-variants.{Ends, Blocks, ForSender, Acks, Closes, Nothing}
 use Rattle.verdicts.specs.Verdict.{verdictOf, connHeard, entryHeard}
 use Rattle.calls.specs.declared.Call.the-variants.{RaiseCredit, RaiseStream, RaiseCount, OpenNext}
 use Rattle.calls.specs.Calls as calls

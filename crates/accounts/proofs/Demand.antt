@@ -20,7 +20,7 @@ use Rattle.streams.specs.declared.Mark.the-variants.{Open}
 use Rattle.halves.specs.Stream.{streamOf, halfOf, ordinalOf, receives, listed, placeOf}
 use Rattle.entries.specs.Entry.{finalOf, entryAt, entryOf}
 use Rattle.streams.specs.Conn.{isOpen, openedOf, countOf}
-use Rattle.views.specs.declared.View.the-variants.{Ends}
+use Rattle.rules.specs.declared.View.the-variants.{Ends}
 use Rattle.rules.specs.Rules.{rule1, rule2, rule3, rule4, rule5, endsOf}
 use Rattle.verdicts.specs.Verdict.{verdictOf}
 use Rattle.limits.specs.Fits.{sumTo, fits}

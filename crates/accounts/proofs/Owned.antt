@@ -23,7 +23,7 @@ use Rattle.entries.specs.Entry.{mostCredit, finalOf, fresh, reached, credited, 
 use Rattle.streams.specs.Conn.{initialOf, openedOf, countOf}
 use Rattle.opening.specs.Opening.{openedConn, unopenedOf, openingOf}
 use Rattle.streams.specs.Conn.{limitsFit}
-use Rattle.views.specs.declared.View.the-variants.{Ends, Blocks, ForSender, Acks, Closes, Nothing}
+use Rattle.rules.specs.declared.View.the-variants.{Ends, Blocks, ForSender, Acks, Closes, Nothing}
 use Rattle.rules.specs.Rules.{endsOf}
 use Rattle.verdicts.specs.Verdict.{verdictOf, entryHeard}
 use Rattle.calls.specs.declared.Call.the-variants.{RaiseCredit, RaiseStream, RaiseCount, OpenNext}

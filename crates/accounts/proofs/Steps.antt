@@ -25,7 +25,7 @@ use Rattle.kinds.specs.declared.Space.{Space}
 use Rattle.halves.specs.Stream.{streamOf, idOf, peers, receives, sends, mostStreams, placeOf}
 use Rattle.entries.specs.Entry.{mostCredit, finalOf, isKnown, fresh, reached, credited, entryOf}
 use Rattle.streams.specs.Conn.{isOpen, markedAs, limitedTo, initialOf, withCredit, withCount, openedOf, countOf, openTo, handedOn}
-use Rattle.views.specs.declared.View.the-variants.{Ends, Blocks, ForSender, Acks, Closes, Nothing}
+use Rattle.rules.specs.declared.View.the-variants.{Ends, Blocks, ForSender, Acks, Closes, Nothing}
 use Rattle.rules.specs.Rules.{rule1, rule2, against, rule3, endsOf, blockedOf, forSenderOf}
 use Rattle.verdicts.specs.Verdict.{verdictOf, connHeard, entryHeard}
 use Rattle.rules.proofs.Taken as rules

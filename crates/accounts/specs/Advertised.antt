@@ -11,7 +11,7 @@ use Rattle.streams.specs.declared.Mark.the-variants.{Open, ByPeer}
 use Rattle.kinds.specs.declared.Space.{Space}
 use Rattle.halves.specs.Stream.{halfOf, ordinalOf, receives, listed}
 use Rattle.streams.specs.Conn.{initialOf, indexOf}
-use Rattle.views.specs.declared.View.the-variants.{Ends, Blocks, ForSender, Acks, Closes, Nothing}
+use Rattle.rules.specs.declared.View.the-variants.{Ends, Blocks, ForSender, Acks, Closes, Nothing}
 use Rattle.calls.specs.declared.Call.the-variants.{RaiseCredit, RaiseStream, RaiseCount, OpenNext}
 use Rattle.limits.specs.Fits.{sumTo}
 use Rattle.accounts.specs.History.{Event}

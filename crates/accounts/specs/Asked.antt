@@ -9,7 +9,7 @@ use Rattle.frames.specs.declared.Frame.the-variants as Frame'
 use Rattle.halves.specs.declared.Stream.{Stream}
 use Rattle.halves.specs.Stream.{streamOf, idOf, placeOf}
 use Rattle.kinds.specs.declared.Space.the-variants.{Initial, Handshake, Application}
-use Rattle.views.specs.declared.View.the-variants.{Ends, Blocks, ForSender, Acks, Closes, Nothing}
+use Rattle.rules.specs.declared.View.the-variants.{Ends, Blocks, ForSender, Acks, Closes, Nothing}
 use Rattle.views.specs.View.{endOf, viewOf, streamIn, framePlace}
 
 -- a stream by its type and ordinal

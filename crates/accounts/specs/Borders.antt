@@ -15,8 +15,8 @@ use Rattle.kinds.specs.declared.Space.the-variants.{Initial, Handshake, Applica
 use Rattle.entries.specs.Entry.{fresh}
 use Rattle.streams.specs.Conn.{openedOf, handedOutOf}
 use Rattle.opening.specs.Opening.{openedConn, openingOf}
-use Rattle.views.specs.declared.View.{View}
-use Rattle.views.specs.declared.View.the-variants.{Ends, Blocks, ForSender, Acks, Closes, Nothing}
+use Rattle.rules.specs.declared.View.{View}
+use Rattle.rules.specs.declared.View.the-variants.{Ends, Blocks, ForSender, Acks, Closes, Nothing}
 use Rattle.views.specs.View.{viewOf}
 use Rattle.verdicts.specs.Verdict.{verdictOf, connHeard}
 use Rattle.calls.specs.declared.Call.{Call}

@@ -19,8 +19,8 @@ use Rattle.halves.specs.Stream.{streamOf, mostStreams, entries, placeOf}
 use Rattle.entries.specs.Entry.{fresh, entryOf}
 use Rattle.streams.specs.Conn.{isOpen, initialOf, handedOn, handedOutOf}
 use Rattle.opening.specs.Opening.{openedConn, openingOf}
-use Rattle.views.specs.declared.View.{View}
-use Rattle.views.specs.declared.View.the-variants.{Ends, Blocks, ForSender, Acks, Closes, Nothing}
+use Rattle.rules.specs.declared.View.{View}
+use Rattle.rules.specs.declared.View.the-variants.{Ends, Blocks, ForSender, Acks, Closes, Nothing}
 use Rattle.views.specs.View as views
 use Rattle.rules.specs.Rules.{rule1, rule2, rule3, rule4}
 use Rattle.verdicts.specs.Verdict.{verdictOf, connHeard, entryHeard}

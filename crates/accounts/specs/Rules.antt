@@ -12,7 +12,7 @@ use Rattle.kinds.specs.declared.Space.the-variants.{Initial, Handshake, Applica
 use Rattle.entries.specs.declared.Entry.{Entry}
 use Rattle.entries.specs.declared.Final.the-variants.{Unknown, Known}
 use Rattle.entries.specs.Entry.{finalOf, fresh}
-use Rattle.views.specs.declared.View.the-variants.{Ends, Blocks, ForSender, Acks}
+use Rattle.rules.specs.declared.View.the-variants.{Ends, Blocks, ForSender, Acks}
 use Rattle.views.specs.View.{viewOf}
 use Rattle.rules.specs.Rules.{rule3, rule5}
 use Rattle.verdicts.specs.Verdict.{verdictOf}

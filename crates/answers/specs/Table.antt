@@ -13,5 +13,5 @@ everyAnswer =
     ∷ DoesNotFit ∷ []
 
 pub record Table : Type 0 where
-  -- "0; done", "3, 4, 5, 6, 7, 10", "101" to "112", "120"; 100 is ours
+  -- 0, 100 for "done", the codes of RFC 9000, and our own from 101 on
   pub numbers : map numberOf everyAnswer ≡ 0 ∷ 100 ∷ 3 ∷ 4 ∷ 5 ∷ 6 ∷ 7 ∷ 10 ∷ 101 ∷ 102 ∷ 103 ∷ 104 ∷ 105 ∷ 106 ∷ 107 ∷ 108 ∷ 109 ∷ 110 ∷ 111 ∷ 112 ∷ 120 ∷ []

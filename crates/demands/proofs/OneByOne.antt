@@ -23,7 +23,7 @@ use Rattle.streams.specs.declared.Conn.{Conn}
 use Rattle.streams.specs.declared.Mark.the-variants.{Code}
 use Rattle.streams.specs.Conn.{isOpen, markedAs}
 use Rattle.kinds.specs.Kinds.{spaceOf}
-use Rattle.views.specs.declared.View.{View}
+use Rattle.rules.specs.declared.View.{View}
 use Rattle.limits.specs.Fits.{fits}
 use Rattle.spaces.specs.declared.Records.{Records}
 use Rattle.spaces.specs.Spaces.{recordedOf}

@@ -40,8 +40,8 @@ use Rattle.calls.specs.declared.Replied.{Replied}
 use Rattle.calls.specs.Calls as calls
 use Rattle.calls.specs.Calls.{numberCalled, replyOf, ruledOf, repliedOf}
 use Rattle.local.specs.Calling.{callPlace, calledAt}
-use Rattle.views.specs.declared.View.{View}
-use Rattle.views.specs.declared.View.the-variants.{Ends}
+use Rattle.rules.specs.declared.View.{View}
+use Rattle.rules.specs.declared.View.the-variants.{Ends}
 use Rattle.views.specs.View.{endOf, viewOf, streamIn}
 use Rattle.verdicts.specs.declared.Judged.{Judged}
 use Rattle.verdicts.specs.Verdict.{verdictOf, settledOf, judgedOf}

@@ -1,4 +1,4 @@
--- The host's calls are what the contracts of crates local and receive promise: one theorem a call, on the `ensures` that the toolchain reads off the source (each is a fact).
+-- The host's calls are what the contracts of crates tables, single, receive and local promise: one theorem a call, on the `ensures` that the toolchain reads off the source (each is a fact).
 -- What a call's `ensures` says of its arguments, its result and the table at exit is that the answer is `answered` and what the host then keeps is `acted`.
 -- Assumes nothing.
 use mathlib.Core.Path.{_≡_, refl, ap}

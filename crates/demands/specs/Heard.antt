@@ -16,7 +16,7 @@ use Rattle.frames.specs.Reading.{frameAt}
 use Rattle.entries.specs.declared.Entry.{Entry}
 use Rattle.streams.specs.declared.Limits.{Limits}
 use Rattle.streams.specs.Conn.{isOpen}
-use Rattle.views.specs.declared.View.{View}
+use Rattle.rules.specs.declared.View.{View}
 use Rattle.views.specs.View.{viewOf}
 use Rattle.packets.specs.declared.Begun.{Begun}
 use Rattle.spaces.specs.declared.Records.{Records}

@@ -1,4 +1,4 @@
--- Histories of a host's calls: what a host keeps of a connection, and what each public call of crates local and receive makes of it, by the definitions that the contracts cite.
+-- Histories of a host's calls: what a host keeps of a connection, and what each public call of crates tables, single, receive and local makes of it, by the definitions that the contracts cite.
 -- That the contracts, as the toolchain reads them, say just this is shown call by call (`Tied`).
 use Prim.Native.Nat.{ℕ}
 use mathlib.Core.Path.{_≡_}

@@ -1,7 +1,7 @@
 -- The borders of a text hold by computation.
 -- Assumes nothing.
 use mathlib.Core.Path.{refl}
-use Rattle.hex.specs.Hex.{halfOf, isHalf}
+use Rattle.dumps.specs.Digits.{halfOf, isHalf}
 use Rattle.dumps.specs.Dump.{isGap, firstOf, secondOf, nextOf, stepped, readOf, begunOf, takenOf}
 use Rattle.dumps.specs.Borders.{Borders}
 

@@ -8,8 +8,8 @@ use native.Mathlib.Omega.{arith}
 use borrow.Author.Tests.{ltb-true, ltb-false, ne-eqb, lt-ltb, le-ltb}
 use lib.Dec.{ltb}
 use Rattle.answers.proofs.Choice.{holds, below-or-not}
-use Rattle.hex.specs.Hex.{halfOf, isHalf}
-use Rattle.hex.proofs.Halves.{none-below, half-bound, a-half, is-half, no-half}
+use Rattle.dumps.specs.Digits.{halfOf, isHalf}
+use Rattle.dumps.proofs.Digits.{none-below, half-bound, a-half, is-half, no-half}
 use Rattle.dumps.specs.Dump.{isGap, firstOf, secondOf, nextOf}
 use Rattle.dumps.specs.declared.Step.{Step}
 use Rattle.dumps.specs.declared.Step.the-variants.{Between, Begun, Byte, Wrong}

@@ -4,8 +4,8 @@ use mathlib.Core.List.{List, [], _∷_}
 use Prim.Native.Nat.{ℕ, suc, _≤_}
 use native.Mathlib.Omega.{arith}
 use lib.ListN.{length}
-use Rattle.hex.specs.Hex.{halfOf}
-use Rattle.hex.proofs.Halves.{half-bound}
+use Rattle.dumps.specs.Digits.{halfOf}
+use Rattle.dumps.proofs.Digits.{half-bound}
 use Rattle.dumps.specs.Dump.{Reading, stepped, readOf}
 use Rattle.dumps.proofs.Characters.{by-step}
 

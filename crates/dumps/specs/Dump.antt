@@ -7,7 +7,7 @@ use lib.ListN.{length}
 use lib.Seq.{sets}
 use lib.Dec.{ltb, eqb}
 use Rattle.answers.specs.Choice.{_⇒_∣_}
-use Rattle.hex.specs.Hex.{halfOf, isHalf}
+use Rattle.dumps.specs.Digits.{halfOf, isHalf}
 use Rattle.dumps.specs.declared.Step.{Step}
 use Rattle.dumps.specs.declared.Step.the-variants as Step'
 use Rattle.dumps.specs.declared.Taken.{Taken}

@@ -1,3 +1,3 @@
+pub mod Digits
 pub mod Dump
-pub mod Spaced
 pub mod Borders

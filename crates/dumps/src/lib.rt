@@ -1,6 +1,7 @@
 // Bytes in hexadecimal as a person copies them out of a capture: two digits for each, in either case, with blanks and
 // newlines between bytes alone. A text may come in pieces.
 ghost use mathlib.Core.Path.{_≡_};
+ghost use Rattle.dumps.specs.Digits.{halfOf};
 ghost use Rattle.dumps.specs.Dump.{begunOf, nextOf, takenOf};
 
 // What a piece of such a text is: read to its end, with so many bytes written and the first digit of a byte that has
@@ -12,11 +13,23 @@ pub enum Taken {
 }
 
 // What a character is where it stands: between bytes, the first digit of a byte, its second, or wrong there.
-enum Step {
+pub enum Step {
     Between,
     Begun { half: u8 },
     Byte { byte: u8 },
     Wrong,
+}
+
+// The half of a byte that a digit stands for, in either case; 16 for what is no digit.
+pub fn half(c: u8) -> u8
+    ensures { λ r. ⌜ r ≡ halfOf c ⌝ }
+{
+    match c {
+        48..=57 => c - 48,
+        65..=70 => c - 55,
+        97..=102 => c - 87,
+        _ => 16,
+    }
 }
 
 // The first digit of a byte that has begun, or 16.
@@ -32,7 +45,7 @@ fn begun(half: u8) -> u8
 fn next(half: u8, c: u8) -> Step
     ensures { λ r. ⌜ r ≡ nextOf half c ⌝ }
 {
-    let digit = hex::half(c);
+    let digit = crate::half(c);
     if half < 16 {
         if digit < 16 {
             return Step::Byte {

@@ -11,9 +11,11 @@ use lib.ListN.{length}
 use lib.Seq.{sets}
 use Rattle.answers.proofs.Choice.{below-or-not}
 use Rattle.text.specs.Text.{every}
-use Rattle.hex.specs.Hex.{digitOf, hexOf, halfOf, isHalf, isPairs, bytesIn, pairsOf}
+use Rattle.hex.specs.Hex.{digitOf, hexOf, isPairs, bytesIn, pairsOf}
+use Rattle.dumps.specs.Digits.{halfOf, isHalf}
 use Rattle.hex.specs.declared.Pairs.the-variants.{Are}
-use Rattle.hex.proofs.Halves.{digit-figure, digit-letter, half-figure, half-lower, is-half, length-hex}
+use Rattle.hex.proofs.Halves.{digit-figure, digit-letter, length-hex}
+use Rattle.dumps.proofs.Digits.{half-figure, half-lower, is-half}
 
 -- half a byte reads back
 pub half-back : (h : ℕ) → h < 16 → halfOf (digitOf h) ≡ h

@@ -3,7 +3,8 @@
 use mathlib.Core.Path.{_≡_, refl}
 use mathlib.Core.List.{[], _∷_}
 use Rattle.text.specs.Text.{every}
-use Rattle.hex.specs.Hex.{digitOf, hexOf, halfOf, isHalf, isPairs, bytesIn, pairsOf}
+use Rattle.hex.specs.Hex.{digitOf, hexOf, isPairs, bytesIn, pairsOf}
+use Rattle.dumps.specs.Digits.{halfOf, isHalf}
 use Rattle.hex.specs.declared.Pairs.the-variants.{Are, Wrong, NoRoom}
 
 -- the bytes 10 and 255 are "0aff"; "0aFF" are they too; "0af" are none; and two do not fit into one

@@ -1,12 +1,13 @@
 -- Bytes in hexadecimal: each as two digits, the higher first; written in lower case, read in either.
-use Prim.Native.Nat.{ℕ, _+_, _*_, _-_, _/_, _%_}
+use Prim.Native.Nat.{ℕ, _+_, _*_, _/_, _%_}
 use mathlib.Core.Bool.{Bool, not, _&&_}
 use mathlib.Core.List.{List, [], _∷_}
 use lib.ListN.{length}
 use lib.Seq.{sets}
-use lib.Dec.{leb, ltb, eqb}
+use lib.Dec.{ltb, eqb}
 use Rattle.answers.specs.Choice.{_⇒_∣_}
 use Rattle.text.specs.Text.{every}
+use Rattle.dumps.specs.Digits.{halfOf, isHalf}
 use Rattle.hex.specs.declared.Pairs.{Pairs}
 use Rattle.hex.specs.declared.Pairs.the-variants.{Are, Wrong, NoRoom}
 
@@ -20,17 +21,6 @@ digitOf h =
 unfoldable pub hexOf : List ℕ → List ℕ
 hexOf [] = []
 hexOf (b ∷ l) = digitOf (b / 16) ∷ digitOf (b % 16) ∷ hexOf l
-
--- the half that a character stands for: 0 to 9, A to F, a to f; 16 for any other
-unfoldable pub halfOf : ℕ → ℕ
-halfOf c =
-    leb 48 c && leb c 57 ⇒ c - 48
-    ∣ leb 65 c && leb c 70 ⇒ c - 55
-    ∣ leb 97 c && leb c 102 ⇒ c - 87
-    ∣ 16
-
-unfoldable pub isHalf : ℕ → Bool
-isHalf c = not (eqb (halfOf c) 16)
 
 -- whether a text is pairs of digits
 unfoldable pub isPairs : List ℕ → Bool

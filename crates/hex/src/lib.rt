@@ -5,7 +5,7 @@ ghost use Prim.Native.Nat.{_/_, _≤_, _<_};
 ghost use lib.ListN.{length};
 ghost use lib.Seq.{sets};
 ghost use Rattle.wire.specs.Writing.{Bytes, writes};
-ghost use Rattle.hex.specs.Hex.{digitOf, hexOf, halfOf, isPairs, bytesIn, pairsOf};
+ghost use Rattle.hex.specs.Hex.{digitOf, hexOf, isPairs, bytesIn, pairsOf};
 use answers::Answer;
 use wire::Wrote;
 
@@ -52,18 +52,6 @@ pub fn write(out: &mut [u8], at: usize, s: &[u8]) -> Wrote
     Wrote::To { next: place }
 }
 
-// The half of a byte that a digit stands for, in either case; 16 for what is no digit.
-pub fn half(c: u8) -> u8
-    ensures { λ r. ⌜ r ≡ halfOf c ⌝ }
-{
-    match c {
-        48..=57 => c - 48,
-        65..=70 => c - 55,
-        97..=102 => c - 87,
-        _ => 16,
-    }
-}
-
 // Whether a text is pairs of digits.
 fn is_pairs(s: &[u8]) -> bool
     ensures { λ r. ⌜ r ≡ isPairs (now (s .entry)) ⌝ }
@@ -73,7 +61,7 @@ fn is_pairs(s: &[u8]) -> bool
     }
     let mut i = 0;
     while i < s.len() {
-        if half(s[i]) == 16 {
+        if dumps::half(s[i]) == 16 {
             return false;
         }
         i += 1;
@@ -88,7 +76,7 @@ fn decode(s: &[u8], out: &mut [u8])
 {
     let mut i = 0;
     while i < s.len() {
-        out[i / 2] = half(s[i]) * 16 + half(s[i + 1]);
+        out[i / 2] = dumps::half(s[i]) * 16 + dumps::half(s[i + 1]);
         i += 2;
     }
 }

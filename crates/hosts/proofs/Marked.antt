@@ -21,8 +21,8 @@ use Rattle.kinds.specs.declared.Space.{Space}
 use Rattle.entries.specs.declared.Entry.{Entry}
 use Rattle.entries.specs.Entry.{mostCredit, entryOf}
 use Rattle.streams.specs.Conn.{isOpen, nextOf, handedOutOf}
-use Rattle.views.specs.declared.View.{View}
-use Rattle.views.specs.declared.View.the-variants.{Ends, Blocks, ForSender, Acks, Closes, Nothing}
+use Rattle.rules.specs.declared.View.{View}
+use Rattle.rules.specs.declared.View.the-variants.{Ends, Blocks, ForSender, Acks, Closes, Nothing}
 use Rattle.views.specs.View.{viewOf}
 use Rattle.verdicts.specs.Verdict.{connHeard}
 use Rattle.calls.specs.declared.Call.{Call}

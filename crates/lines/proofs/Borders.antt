@@ -3,7 +3,8 @@
 use mathlib.Core.Path.{refl}
 use Rattle.text.specs.Text.{every}
 use Rattle.text.specs.Decimal.{valueFrom, isDigit, parsedOf}
-use Rattle.hex.specs.Hex.{halfOf, isHalf, isPairs, bytesIn, pairsOf}
+use Rattle.hex.specs.Hex.{isPairs, bytesIn, pairsOf}
+use Rattle.dumps.specs.Digits.{halfOf, isHalf}
 use Rattle.search.specs.Words.{before, sameOf}
 use Rattle.wire.specs.Writing.{writes}
 use Rattle.lines.specs.Gathered.{grownOf, pieceOf, endsIn, usedOf, gatheredOf}

@@ -6,7 +6,8 @@ use mathlib.Core.List.{List, [], _∷_, _++_, map}
 use lib.ListN.{replicate}
 use Rattle.text.specs.Decimal.{isDigit, parsedOf}
 use Rattle.text.specs.declared.decimal.Parsed.the-variants as Parsed'
-use Rattle.hex.specs.Hex.{halfOf, pairsOf}
+use Rattle.hex.specs.Hex.{pairsOf}
+use Rattle.dumps.specs.Digits.{halfOf}
 use Rattle.hex.specs.declared.Pairs.the-variants as Pairs'
 use Rattle.lines.specs.declared.words.Signed.the-variants.{Plus, Minus, Wrong}
 use Rattle.lines.specs.declared.gather.Line.{Line}

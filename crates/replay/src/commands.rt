@@ -12,10 +12,13 @@ use lines::words::Signed;
 use numbers::Size;
 use text::decimal::Parsed;
 
-// A command, whose bytes, if it has any, stand beside it: `count` says how many.
+// A command, whose bytes, if it has any, stand beside it: `count` says how many. For a line that is none, `word` is the
+// place of the first word that cannot stand there: 0, the name's own, if no command of that name has so many words.
 pub enum Command {
     Blank,
-    What,
+    What {
+        word: usize,
+    },
     Open {
         init0: u64,
         init1: u64,
@@ -162,13 +165,13 @@ fn room(n: u64) -> usize {
 fn packet(s: &[u8], bytes: &mut [u8]) -> Command {
     let mut one = [0u8; 1];
     let Pairs::Are { count: firsts } = line::bytes(s, 1, &mut one) else {
-        return Command::What;
+        return Command::What { word: 1 };
     };
     if firsts != 1 {
-        return Command::What;
+        return Command::What { word: 1 };
     }
     let Pairs::Are { count } = line::bytes(s, 2, bytes) else {
-        return Command::What;
+        return Command::What { word: 2 };
     };
     Command::Within {
         within: Within::Packet {
@@ -180,10 +183,10 @@ fn packet(s: &[u8], bytes: &mut [u8]) -> Command {
 
 fn frame(s: &[u8], bytes: &mut [u8]) -> Command {
     let KindWord::Is { kind } = kind(s, 1) else {
-        return Command::What;
+        return Command::What { word: 1 };
     };
     let Pairs::Are { count } = line::bytes(s, 2, bytes) else {
-        return Command::What;
+        return Command::What { word: 2 };
     };
     Command::Within {
         within: Within::Frame { kind, count },
@@ -192,7 +195,7 @@ fn frame(s: &[u8], bytes: &mut [u8]) -> Command {
 
 fn hand(s: &[u8]) -> Command {
     let SpaceWord::Is { space } = space(s, 1) else {
-        return Command::What;
+        return Command::What { word: 1 };
     };
     Command::Within {
         within: Within::Hand { space },
@@ -201,7 +204,7 @@ fn hand(s: &[u8]) -> Command {
 
 fn credit(s: &[u8]) -> Command {
     let Parsed::Is { value: new } = line::number(s, 1) else {
-        return Command::What;
+        return Command::What { word: 1 };
     };
     Command::Within {
         within: Within::Make {
@@ -212,7 +215,7 @@ fn credit(s: &[u8]) -> Command {
 
 fn start(s: &[u8]) -> Command {
     let Parsed::Is { value: ty } = line::number(s, 1) else {
-        return Command::What;
+        return Command::What { word: 1 };
     };
     Command::Within {
         within: Within::Make {
@@ -223,10 +226,10 @@ fn start(s: &[u8]) -> Command {
 
 fn stream(s: &[u8]) -> Command {
     let Parsed::Is { value: id } = line::number(s, 1) else {
-        return Command::What;
+        return Command::What { word: 1 };
     };
     let Parsed::Is { value: new } = line::number(s, 2) else {
-        return Command::What;
+        return Command::What { word: 2 };
     };
     Command::Within {
         within: Within::Make {
@@ -237,10 +240,10 @@ fn stream(s: &[u8]) -> Command {
 
 fn count(s: &[u8]) -> Command {
     let Parsed::Is { value: ty } = line::number(s, 1) else {
-        return Command::What;
+        return Command::What { word: 1 };
     };
     let Parsed::Is { value: new } = line::number(s, 2) else {
-        return Command::What;
+        return Command::What { word: 2 };
     };
     Command::Within {
         within: Within::Make {
@@ -251,10 +254,10 @@ fn count(s: &[u8]) -> Command {
 
 fn mark(s: &[u8]) -> Command {
     let SpaceWord::Is { space } = space(s, 1) else {
-        return Command::What;
+        return Command::What { word: 1 };
     };
     let Parsed::Is { value: number } = line::number(s, 2) else {
-        return Command::What;
+        return Command::What { word: 2 };
     };
     Command::Within {
         within: Within::Mark { space, number },
@@ -263,13 +266,13 @@ fn mark(s: &[u8]) -> Command {
 
 fn ack(s: &[u8]) -> Command {
     let SpaceWord::Is { space } = space(s, 1) else {
-        return Command::What;
+        return Command::What { word: 1 };
     };
     let Parsed::Is { value: delay } = line::number(s, 2) else {
-        return Command::What;
+        return Command::What { word: 2 };
     };
     let Parsed::Is { value: bytes } = line::number(s, 3) else {
-        return Command::What;
+        return Command::What { word: 3 };
     };
     Command::Within {
         within: Within::Ack {
@@ -282,7 +285,7 @@ fn ack(s: &[u8]) -> Command {
 
 fn split(s: &[u8], bytes: &mut [u8]) -> Command {
     let Pairs::Are { count } = line::bytes(s, 1, bytes) else {
-        return Command::What;
+        return Command::What { word: 1 };
     };
     Command::Alone {
         alone: Alone::Split { count },
@@ -291,10 +294,10 @@ fn split(s: &[u8], bytes: &mut [u8]) -> Command {
 
 fn again(s: &[u8], bytes: &mut [u8]) -> Command {
     let Pairs::Are { count } = line::bytes(s, 1, bytes) else {
-        return Command::What;
+        return Command::What { word: 1 };
     };
     let Parsed::Is { value } = line::number(s, 2) else {
-        return Command::What;
+        return Command::What { word: 2 };
     };
     Command::Alone {
         alone: Alone::Again {
@@ -325,13 +328,13 @@ fn expected(largest: Signed) -> Parsed {
 
 fn recover(s: &[u8]) -> Command {
     let Parsed::Is { value: expected } = expected(line::with_sign(s, 1)) else {
-        return Command::What;
+        return Command::What { word: 1 };
     };
     let SizeWord::Is { size } = size(s, 2) else {
-        return Command::What;
+        return Command::What { word: 2 };
     };
     let Parsed::Is { value: truncated } = line::number(s, 3) else {
-        return Command::What;
+        return Command::What { word: 3 };
     };
     Command::Alone {
         alone: Alone::Recover {
@@ -366,33 +369,33 @@ fn length_of(pn: u64, acked: i64) -> Command {
 
 fn length(s: &[u8]) -> Command {
     let Parsed::Is { value: pn } = line::number(s, 1) else {
-        return Command::What;
+        return Command::What { word: 1 };
     };
     match line::with_sign(s, 2) {
         Signed::Plus { value } => length_of(pn, capped(value)),
         Signed::Minus { value } => length_of(pn, below(value)),
-        Signed::Wrong => Command::What,
+        Signed::Wrong => Command::What { word: 2 },
     }
 }
 
 fn open(s: &[u8]) -> Command {
     let Parsed::Is { value: init0 } = line::number(s, 1) else {
-        return Command::What;
+        return Command::What { word: 1 };
     };
     let Parsed::Is { value: init1 } = line::number(s, 2) else {
-        return Command::What;
+        return Command::What { word: 2 };
     };
     let Parsed::Is { value: init2 } = line::number(s, 3) else {
-        return Command::What;
+        return Command::What { word: 3 };
     };
     let Parsed::Is { value: count0 } = line::number(s, 4) else {
-        return Command::What;
+        return Command::What { word: 4 };
     };
     let Parsed::Is { value: count2 } = line::number(s, 5) else {
-        return Command::What;
+        return Command::What { word: 5 };
     };
     let Parsed::Is { value: credit } = line::number(s, 6) else {
-        return Command::What;
+        return Command::What { word: 6 };
     };
     Command::Open {
         init0,
@@ -407,7 +410,7 @@ fn open(s: &[u8]) -> Command {
 fn set(s: &[u8], n: usize) -> Command {
     let spoil = spoils::read(s, n);
     match spoil {
-        Spoil::Wrong => Command::What,
+        Spoil::Wrong { word } => Command::What { word },
         _ => Command::Within {
             within: Within::Set { spoil },
         },
@@ -428,7 +431,7 @@ fn of_one(s: &[u8], bytes: &mut [u8]) -> Command {
     if line::is(s, 0, b"split") {
         return split(s, bytes);
     }
-    Command::What
+    Command::What { word: 0 }
 }
 
 // The commands with two.
@@ -454,7 +457,7 @@ fn of_two(s: &[u8], bytes: &mut [u8]) -> Command {
     if line::is(s, 0, b"again") {
         return again(s, bytes);
     }
-    Command::What
+    Command::What { word: 0 }
 }
 
 // The commands with three, and the one with six.
@@ -468,7 +471,7 @@ fn of_more(s: &[u8], n: usize) -> Command {
     if n == 7 && line::is(s, 0, b"open") {
         return open(s);
     }
-    Command::What
+    Command::What { word: 0 }
 }
 
 // A line as a command, whose bytes go to the front of `bytes`.

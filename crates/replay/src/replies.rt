@@ -2,6 +2,7 @@
 use crate::alone;
 use crate::commands;
 use crate::commands::Command;
+use crate::reasons;
 use crate::say;
 use crate::session::Ran;
 use crate::session::Session;
@@ -14,7 +15,7 @@ fn answer(now: Session, command: Command, s: &[u8], out: &mut [u8; 16384]) -> Ra
             session: now,
             len: 0,
         },
-        Command::What => Ran {
+        Command::What { word: _ } => Ran {
             session: now,
             len: say::text(out, 0, b"what"),
         },
@@ -34,15 +35,18 @@ fn answer(now: Session, command: Command, s: &[u8], out: &mut [u8; 16384]) -> Ra
     }
 }
 
-// Runs a line, and writes its answer with a newline, if it has one.
-fn run(now: Session, s: &[u8]) -> Session {
+// Runs a line, and writes its answer with a newline, if it has one; then, if it is no call, the reason.
+fn run(now: Session, s: &[u8], number: u64) -> Session {
     let mut bytes = [0u8; 2048];
     let mut out = [0u8; 16384];
     let command = commands::read(s, &mut bytes);
     let ran = answer(now, command, &bytes, &mut out);
     if 0 < ran.len {
         let len = say::text(&mut out, ran.len, b"\n");
-        say::send(&out, len);
+        say::send(libc::STDOUT_FILENO, &out, len);
+    }
+    if let Command::What { word } = command {
+        reasons::no_call(number, s, word);
     }
     ran.session
 }
@@ -55,12 +59,13 @@ fn front(row: &[u8], len: usize) -> &[u8] {
     &row[0..len]
 }
 
-// Runs the line that is kept at the front of a row.
-pub fn ended(now: Session, row: &[u8], line: Line) -> Session {
+// Runs the line that is kept at the front of a row; its number is for the reason, if it needs one.
+pub fn ended(now: Session, row: &[u8], line: Line, number: u64) -> Session {
     match line {
-        Line::Kept { len } => run(now, front(row, len)),
+        Line::Kept { len } => run(now, front(row, len), number),
         Line::TooLong => {
             io::write_all(libc::STDOUT_FILENO, b"too long\n");
+            reasons::too_long(number);
             now
         },
     }

@@ -1,9 +1,9 @@
-// What answers are written with: texts, numbers and bytes, each at a place of the output, telling the place after it.
+// What lines are written with: texts, numbers and bytes, each at a place of the output, telling the place after it.
 use text::decimal;
 use text::put;
 use wire::Wrote;
 
-// The place after what was written. The output is longer than any answer, so that nothing is left off.
+// The place after what was written. The output is longer than any answer or reason, so that nothing is left off.
 fn after(w: Wrote, at: usize) -> usize {
     match w {
         Wrote::To { next } => next,
@@ -41,16 +41,16 @@ pub fn bytes(out: &mut [u8; 16384], at: usize, s: &[u8], from: usize, len: usize
     after(hex::write(out, o, &s[from..end]), o)
 }
 
-fn first(s: &[u8], len: usize) {
+fn first(to: i32, s: &[u8], len: usize) {
     if s.len() < len {
         return;
     }
-    io::write_all(libc::STDOUT_FILENO, &s[0..len]);
+    io::write_all(to, &s[0..len]);
 }
 
-// Writes the first bytes of the output, an answer, to standard output at once.
-pub fn send(out: &[u8; 16384], len: usize) {
-    first(out, len);
+// Writes the first bytes of the output, a line with its newline, to standard output or standard error at once.
+pub fn send(to: i32, out: &[u8; 16384], len: usize) {
+    first(to, out, len);
 }
 
 // The answer of a writer, and the bytes that it wrote to the front of s.

@@ -10,8 +10,9 @@ use kinds::Space;
 use streams::Conn;
 use text::decimal::Parsed;
 
+// What is changed; or, as for a command, the place of the first word that cannot stand there.
 pub enum Spoil {
-    Wrong,
+    Wrong { word: usize },
     Total { new: u64 },
     Credit { new: u64 },
     Count { at: u64, new: u64 },
@@ -24,68 +25,114 @@ pub enum Spoil {
 
 // A number of the connection itself.
 fn of_two(s: &[u8]) -> Spoil {
+    let total = line::is(s, 1, b"total");
+    if !total && !line::is(s, 1, b"credit") {
+        return Spoil::Wrong { word: 1 };
+    }
     let Parsed::Is { value: new } = line::number(s, 2) else {
-        return Spoil::Wrong;
+        return Spoil::Wrong { word: 2 };
     };
-    if line::is(s, 1, b"total") {
+    if total {
         return Spoil::Total { new };
     }
-    if line::is(s, 1, b"credit") {
-        return Spoil::Credit { new };
-    }
-    Spoil::Wrong
+    Spoil::Credit { new }
 }
 
-// The counts are those of halves 0 and 2, in this order.
-fn count(half: u64, new: u64) -> Spoil {
-    match half {
-        0 => Spoil::Count { at: 0, new },
-        2 => Spoil::Count { at: 1, new },
-        _ => Spoil::Wrong,
+// A word as an index below a bound.
+fn index(s: &[u8], n: usize, bound: u64) -> Parsed {
+    let Parsed::Is { value } = line::number(s, n) else {
+        return Parsed::Wrong;
+    };
+    if value < bound {
+        return Parsed::Is { value };
     }
+    Parsed::Wrong
+}
+
+// The index of a count: they are those of halves 0 and 2, in this order.
+fn counted(s: &[u8]) -> Parsed {
+    let Parsed::Is { value: half } = line::number(s, 2) else {
+        return Parsed::Wrong;
+    };
+    match half {
+        0 => Parsed::Is { value: 0 },
+        2 => Parsed::Is { value: 1 },
+        _ => Parsed::Wrong,
+    }
+}
+
+fn count(s: &[u8]) -> Spoil {
+    let Parsed::Is { value: at } = counted(s) else {
+        return Spoil::Wrong { word: 2 };
+    };
+    let Parsed::Is { value: new } = line::number(s, 3) else {
+        return Spoil::Wrong { word: 3 };
+    };
+    Spoil::Count { at, new }
+}
+
+fn opened(s: &[u8]) -> Spoil {
+    let Parsed::Is { value: at } = index(s, 2, 4) else {
+        return Spoil::Wrong { word: 2 };
+    };
+    let Parsed::Is { value: new } = line::number(s, 3) else {
+        return Spoil::Wrong { word: 3 };
+    };
+    Spoil::Opened { at, new }
+}
+
+fn initial(s: &[u8]) -> Spoil {
+    let Parsed::Is { value: at } = index(s, 2, 3) else {
+        return Spoil::Wrong { word: 2 };
+    };
+    let Parsed::Is { value: new } = line::number(s, 3) else {
+        return Spoil::Wrong { word: 3 };
+    };
+    Spoil::Initial { at, new }
+}
+
+fn top(s: &[u8]) -> Spoil {
+    let SpaceWord::Is { space } = commands::space(s, 2) else {
+        return Spoil::Wrong { word: 2 };
+    };
+    let Parsed::Is { value: new } = line::number(s, 3) else {
+        return Spoil::Wrong { word: 3 };
+    };
+    Spoil::Top { space, new }
 }
 
 // A number of a half, or the top of a record.
 fn of_three(s: &[u8]) -> Spoil {
-    let Parsed::Is { value: at } = line::number(s, 2) else {
-        return Spoil::Wrong;
-    };
-    let Parsed::Is { value: new } = line::number(s, 3) else {
-        return Spoil::Wrong;
-    };
     if line::is(s, 1, b"count") {
-        return count(at, new);
+        return count(s);
     }
-    if line::is(s, 1, b"opened") && at < 4 {
-        return Spoil::Opened { at, new };
+    if line::is(s, 1, b"opened") {
+        return opened(s);
     }
-    if line::is(s, 1, b"initial") && at < 3 {
-        return Spoil::Initial { at, new };
+    if line::is(s, 1, b"initial") {
+        return initial(s);
     }
-    let SpaceWord::Is { space } = commands::space(s, 2) else {
-        return Spoil::Wrong;
-    };
     if line::is(s, 1, b"top") {
-        return Spoil::Top { space, new };
+        return top(s);
     }
-    Spoil::Wrong
+    Spoil::Wrong { word: 1 }
 }
 
 // A word of a record.
 fn of_four(s: &[u8]) -> Spoil {
+    if !line::is(s, 1, b"word") {
+        return Spoil::Wrong { word: 1 };
+    }
     let SpaceWord::Is { space } = commands::space(s, 2) else {
-        return Spoil::Wrong;
+        return Spoil::Wrong { word: 2 };
     };
-    let Parsed::Is { value: at } = line::number(s, 3) else {
-        return Spoil::Wrong;
+    let Parsed::Is { value: at } = index(s, 3, 128) else {
+        return Spoil::Wrong { word: 3 };
     };
     let Parsed::Is { value: new } = line::number(s, 4) else {
-        return Spoil::Wrong;
+        return Spoil::Wrong { word: 4 };
     };
-    if line::is(s, 1, b"word") && at < 128 {
-        return Spoil::Word { space, at, new };
-    }
-    Spoil::Wrong
+    Spoil::Word { space, at, new }
 }
 
 // A final size; `-` for none.
@@ -100,23 +147,23 @@ fn final_size(s: &[u8]) -> Parsed {
 
 // An entry of the table.
 fn of_five(s: &[u8]) -> Spoil {
-    let Parsed::Is { value: at } = line::number(s, 2) else {
-        return Spoil::Wrong;
+    if !line::is(s, 1, b"entry") {
+        return Spoil::Wrong { word: 1 };
+    }
+    let Parsed::Is { value: at } = index(s, 2, 192) else {
+        return Spoil::Wrong { word: 2 };
     };
     let Parsed::Is { value: credit } = line::number(s, 3) else {
-        return Spoil::Wrong;
+        return Spoil::Wrong { word: 3 };
     };
     let Parsed::Is { value: end } = line::number(s, 4) else {
-        return Spoil::Wrong;
+        return Spoil::Wrong { word: 4 };
     };
     let Parsed::Is { value: size } = final_size(s) else {
-        return Spoil::Wrong;
+        return Spoil::Wrong { word: 5 };
     };
-    if line::is(s, 1, b"entry") && at < 192 {
-        let entry = Entry { credit, end, size };
-        return Spoil::Place { at, entry };
-    }
-    Spoil::Wrong
+    let entry = Entry { credit, end, size };
+    Spoil::Place { at, entry }
 }
 
 // A line of n words that begins with `set`.
@@ -126,7 +173,7 @@ pub fn read(s: &[u8], n: usize) -> Spoil {
         4 => of_three(s),
         5 => of_four(s),
         6 => of_five(s),
-        _ => Spoil::Wrong,
+        _ => Spoil::Wrong { word: 0 },
     }
 }
 

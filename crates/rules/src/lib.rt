@@ -1,5 +1,5 @@
-// Rules 1 to 5 of docs/RULES.md, "Streams and credit", on a connection and ONE entry of its table, by value: one function each, and
-// the answers that they give together.
+// What a frame may ask of the streams, and rules 1 to 5 of docs/RULES.md, "Streams and credit", on a connection and ONE entry of its
+// table, by value: one function each, and the answers that they give together.
 ghost use mathlib.Core.Path.{_≡_};
 ghost use Prim.Native.Nat.{_-_};
 ghost use Rattle.rules.specs.Rules;
@@ -7,7 +7,19 @@ use answers::Answer;
 use entries::Entry;
 use entries::Final;
 use halves::Stream;
+use kinds::Space;
 use streams::Conn;
+
+// What a frame asks of the streams: to take a stream's data up to an end; to note that a stream is blocked, or something
+// for our sending half of one; to note an acknowledgement; to close the connection; or nothing.
+pub enum View {
+    Ends { id: u64, end: u64, fin: bool },
+    Blocks { id: u64 },
+    ForSender { id: u64 },
+    Acks { space: Space, largest: u64 },
+    Closes,
+    Nothing,
+}
 
 // The peer does not send on the stream's half, or the stream is ours and we did not open it.
 fn rule1(count: u64, s: Stream) -> bool

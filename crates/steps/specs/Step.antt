@@ -13,7 +13,7 @@ use Rattle.streams.specs.declared.Conn.{Conn}
 use Rattle.entries.specs.declared.Entry.{Entry}
 use Rattle.streams.specs.declared.Mark.the-variants.{Code}
 use Rattle.verdicts.specs.declared.Judged.{Judged}
-use Rattle.views.specs.declared.View.the-variants.{Nothing}
+use Rattle.rules.specs.declared.View.the-variants.{Nothing}
 use Rattle.streams.specs.Conn.{isOpen, markedAs}
 use Rattle.answers.specs.Answers.{accepts}
 use Rattle.views.specs.View.{viewOf, framePlace}

@@ -11,10 +11,10 @@ use answers::Answer;
 use entries::Entry;
 use frames::Reading;
 use kinds::Kind;
+use rules::View;
 use streams::Conn;
 use streams::Mark;
 use verdicts::Judged;
-use views::View;
 use wire::Number;
 
 // What a frame asks for, from what reading it gave.

@@ -1,4 +1,4 @@
-// One frame of a payload as a step on a connection and ONE entry, and what comes before any call: the gate, and opening. By value
+// One frame of a payload as a step on a connection and ONE entry, and the gate that comes before any call. By value
 // (docs/RULES.md, "Taking a packet"): what a host's call does, apart from the lent table.
 pub mod frame;
 pub mod gates;
@@ -6,8 +6,8 @@ pub mod gates;
 use answers::Answer;
 use entries::Entry;
 use frames::Frame;
+use rules::View;
 use streams::Conn;
-use views::View;
 
 // What a frame at a place asks for: the place of the entry that it looks at, the place after the frame, its type and what
 // it asks of the streams; or the code that refuses it as it stands.

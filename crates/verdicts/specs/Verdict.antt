@@ -11,8 +11,8 @@ use Rattle.streams.specs.declared.Conn.{Conn}
 use Rattle.entries.specs.declared.Entry.{Entry}
 use Rattle.streams.specs.declared.Mark.the-variants.{Code, ByPeer}
 use Rattle.rules.specs.Rules.{endsOf, blockedOf, forSenderOf}
-use Rattle.views.specs.declared.View.{View}
-use Rattle.views.specs.declared.View.the-variants.{Ends, Blocks, ForSender, Acks, Closes, Nothing}
+use Rattle.rules.specs.declared.View.{View}
+use Rattle.rules.specs.declared.View.the-variants.{Ends, Blocks, ForSender, Acks, Closes, Nothing}
 use Rattle.verdicts.specs.declared.Judged.{Judged}
 
 -- the answer of an open connection whose table fits

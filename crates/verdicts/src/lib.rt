@@ -1,13 +1,13 @@
 // The verdict on a frame for the connection and the one entry that it looks at, by value: its answer, and what it leaves of both.
 ghost use mathlib.Core.Path.{_≡_};
 ghost use Rattle.entries.specs.Entry.{reached};
-ghost use Rattle.views.specs.declared.View.the-variants.{Ends};
+ghost use Rattle.rules.specs.declared.View.the-variants.{Ends};
 ghost use Rattle.verdicts.specs.Verdict.{settledOf, judgedOf};
 use answers::Answer;
 use entries::Entry;
+use rules::View;
 use streams::Conn;
 use streams::Mark;
-use views::View;
 
 // A verdict, with the connection and the entry after it.
 pub struct Judged {

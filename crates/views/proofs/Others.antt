@@ -11,9 +11,9 @@ use Rattle.frames.specs.declared.Frame.the-variants.{Padding, Ping, Ack, AckEcn
 use Rattle.frames.proofs.Frame as frame
 use Rattle.halves.specs.Stream.{placeOf}
 use Rattle.views.specs.View.{viewOf, framePlace}
-use Rattle.views.specs.declared.View.{View}
-use Rattle.views.specs.declared.View.the-variants.{Ends, Blocks, ForSender, Acks, Closes, Nothing}
-use Rattle.views.proofs.View as view
+use Rattle.rules.specs.declared.View.{View}
+use Rattle.rules.specs.declared.View.the-variants.{Ends, Blocks, ForSender, Acks, Closes, Nothing}
+use Rattle.rules.proofs.View as view
 
 -- the tags of the frames that ask nothing
 abbrev plains : List ℕ

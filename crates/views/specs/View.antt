@@ -8,8 +8,8 @@ use Rattle.frames.specs.declared.Frame.{Frame}
 use Rattle.frames.specs.declared.Frame.the-variants as Frame'
 use Rattle.halves.specs.Stream.{placeOf}
 use Rattle.kinds.specs.Kinds.{spaceOf}
-use Rattle.views.specs.declared.View.{View}
-use Rattle.views.specs.declared.View.the-variants.{Ends, Blocks, ForSender, Acks, Closes, Nothing}
+use Rattle.rules.specs.declared.View.{View}
+use Rattle.rules.specs.declared.View.the-variants.{Ends, Blocks, ForSender, Acks, Closes, Nothing}
 
 -- offset plus length, as far as 64 bits hold it: a frame that was read has no end above 2^62-1
 unfoldable pub endOf : ℕ → ℕ → ℕ

@@ -4,17 +4,7 @@ ghost use Rattle.views.specs.View.{endOf, viewOf, framePlace};
 use frames::Frame;
 use kinds::Kind;
 use kinds::Space;
-
-// What a frame asks of the streams: to take a stream's data up to an end; to note that a stream is blocked, or something
-// for our sending half of one; to note an acknowledgement; to close the connection; or nothing.
-pub enum View {
-    Ends { id: u64, end: u64, fin: bool },
-    Blocks { id: u64 },
-    ForSender { id: u64 },
-    Acks { space: Space, largest: u64 },
-    Closes,
-    Nothing,
-}
+use rules::View;
 
 // Offset plus length, as far as 64 bits hold it.
 fn end_of(offset: u64, len: u64) -> u64

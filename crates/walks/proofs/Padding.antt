@@ -16,7 +16,7 @@ use Rattle.kinds.specs.declared.Kind.{Kind}
 use Rattle.frames.proofs.Order.{padding}
 use Rattle.streams.specs.declared.Conn.{Conn}
 use Rattle.entries.specs.declared.Entry.{Entry}
-use Rattle.views.specs.declared.View.the-variants.{Nothing}
+use Rattle.rules.specs.declared.View.the-variants.{Nothing}
 use Rattle.halves.specs.Stream.{placeOf}
 use Rattle.entries.specs.Entry.{fresh, entryAt}
 use Rattle.streams.specs.Conn.{isOpen}

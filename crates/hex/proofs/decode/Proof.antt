@@ -11,7 +11,8 @@ use lib.ListN.{length, drop, length-set}
 use lib.Seq.{sets}
 use denote.Ref.{now}
 use Rattle.text.specs.Text.{every}
-use Rattle.hex.specs.Hex.{isHalf, isPairs, bytesIn}
+use Rattle.hex.specs.Hex.{isPairs, bytesIn}
+use Rattle.dumps.specs.Digits.{isHalf}
 use Rattle.text.proofs.Steps.{ended}
 use Rattle.hex.proofs.Halves.{pair, pair-step}
 use Rattle.hex.proofs.decode.Statement.{statement}

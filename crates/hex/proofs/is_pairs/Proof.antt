@@ -9,9 +9,11 @@ use borrow.Author.Tests.{eq-eqb, ne-eqb}
 use lib.ListN.{length, getD, drop}
 use denote.Ref.{now}
 use Rattle.text.specs.Text.{every}
-use Rattle.hex.specs.Hex.{isHalf, isPairs}
+use Rattle.hex.specs.Hex.{isPairs}
+use Rattle.dumps.specs.Digits.{isHalf}
 use Rattle.text.proofs.Steps.{ended}
-use Rattle.hex.proofs.Halves.{is-half, no-half, halves-on, halves-off}
+use Rattle.hex.proofs.Halves.{halves-on, halves-off}
+use Rattle.dumps.proofs.Digits.{is-half, no-half}
 use Rattle.hex.proofs.is_pairs.Statement.{statement}
 use Rattle.hex.proofs.is_pairs.Tie as tie
 

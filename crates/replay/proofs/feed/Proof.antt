@@ -11,10 +11,10 @@ use Rattle.replay.proofs.feed.Statement.{statement}
 use Rattle.replay.proofs.feed.Tie as tie
 
 abbrev Inv-loop : tie.InvT-loop
-Inv-loop row₀ s now₀ kept₀ at₀ row now kept at = at ≤ length s
+Inv-loop row₀ number s now₀ kept₀ count₀ at₀ row now kept count at = at ≤ length s
 
 abbrev μ-loop : tie.MeasureT-loop
-μ-loop row₀ s now₀ kept₀ at₀ row now kept at = length s - at
+μ-loop row₀ number s now₀ kept₀ count₀ at₀ row now kept count at = length s - at
 
 -- what a turn uses of the bytes from the place on
 used : (c : tie.After-struct-known Inv-loop μ-loop) →
@@ -42,8 +42,9 @@ feed-spec =
     (λ c κs. search needs)
     (λ c. record { fits = omega (arith, used c .1) })
     (λ c κs. search needs)
-    (λ c. omega (arith, used (c .before .before .before .before) .0, used (c .before .before .before .before) .1))
-    (λ c. used (c .before .before .before .before) .1)
+    (λ c. search needs)
+    (λ c. omega (arith, used (c .before .before .before .before .before) .0, used (c .before .before .before .before .before) .1))
+    (λ c. used (c .before .before .before .before .before) .1)
     (λ c. omega (arith, used (c .before) .0, used (c .before) .1))
     (λ c. used (c .before) .1)
     (λ c. search needs))

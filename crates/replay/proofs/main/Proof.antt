@@ -5,10 +5,10 @@ use Rattle.replay.proofs.main.Statement.{statement}
 use Rattle.replay.proofs.main.Tie as tie
 
 abbrev Inv-loop : tie.InvT-loop
-Inv-loop now₀ row₀ len₀ left₀ now row len left = Unit
+Inv-loop now₀ row₀ len₀ number₀ left₀ now row len number left = Unit
 
 abbrev μ-loop : tie.MeasureT-loop
-μ-loop now₀ row₀ len₀ left₀ now row len left = left
+μ-loop now₀ row₀ len₀ number₀ left₀ now row len number left = left
 
 pub main-spec : {M : Type 1} → statement M
 main-spec =

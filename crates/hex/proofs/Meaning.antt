@@ -9,11 +9,12 @@ use borrow.Author.Tests.{eqb-true, eq-eqb}
 use lib.Dec.{eqb}
 use lib.ListN.{length}
 use Rattle.text.specs.Text.{every}
-use Rattle.hex.specs.Hex.{halfOf, isHalf, isPairs, bytesIn}
-use Rattle.hex.proofs.Halves.{a-half}
+use Rattle.hex.specs.Hex.{isPairs, bytesIn}
+use Rattle.dumps.specs.Digits.{halfOf, isHalf}
+use Rattle.dumps.proofs.Digits.{a-half}
 use Rattle.dumps.specs.Dump.{Reading, stepped, readOf}
-use Rattle.dumps.specs.Spaced.{solidOf}
+use Rattle.hex.specs.Spaced.{solidOf}
 use Rattle.dumps.proofs.Characters.{by-step, digit-no-gap}
 
 -- a text is pairs of digits, with these bytes
 record Means (l bytes : List ℕ) : Type 0 where

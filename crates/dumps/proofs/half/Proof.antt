@@ -1,11 +1,11 @@
--- `hex::half` meets its contract: each arm is the range of characters that the definition's test of the same half tells.
+-- `dumps::half` meets its contract: each arm is the range of characters that the definition's test of the same half tells.
 -- Assumes nothing.
 use mathlib.Core.Path.{sym}
 use native.Mathlib.Omega.{arith}
 use borrow.Author.Needs.{needs}
-use Rattle.hex.proofs.Halves.{half-figure, half-upper, half-lower, none-below, none-first, none-second, none-above}
-use Rattle.hex.proofs.half.Statement.{statement}
-use Rattle.hex.proofs.half.Tie as tie
+use Rattle.dumps.proofs.Digits.{half-figure, half-upper, half-lower, none-below, none-first, none-second, none-above}
+use Rattle.dumps.proofs.half.Statement.{statement}
+use Rattle.dumps.proofs.half.Tie as tie
 
 returns : tie.Need-returns
 returns c = sym (half-figure _ (omega arith) (omega arith))

@@ -10,14 +10,14 @@ use borrow.Author.Tests.{le-ltb}
 use lib.ListN.{length, length-append, length-map}
 use lib.Seq.{sets}
 use Rattle.text.specs.Text.{every}
 use Rattle.hex.specs.Hex.{digitOf, hexOf}
 use Rattle.hex.proofs.Halves.{length-hex}
 use Rattle.hex.proofs.Back.{half-back}
 use Rattle.dumps.specs.Dump.{isGap, nextOf, Reading, behind, stepped, readOf, begunOf, takenOf}
-use Rattle.dumps.specs.Spaced.{Spaced, spacedOf, OnlyGaps, AreSpaced}
+use Rattle.hex.specs.Spaced.{Spaced, spacedOf, OnlyGaps, AreSpaced}
 use Rattle.dumps.specs.declared.Step.the-variants.{Between, Begun, Byte}
 use Rattle.dumps.specs.declared.Taken.the-variants.{All}
 use Rattle.dumps.proofs.Characters.{ends, begins, between, gap-no-digit}
 
 -- bytes that are all that a text is read as
 abbrev pub whole : List ℕ → List ℕ → Reading
