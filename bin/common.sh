@@ -6,8 +6,8 @@ room=''
 room_of_its_own() { [ -n "$room" ] || room=$(mktemp -d) || fail "no room for temporary files"; }
 leave() { [ -z "$room" ] || rm -rf -- "$room"; }
 trap leave EXIT
-# what runs beside the command does not hear an interrupt by itself
-trap 'trap - INT; leave; kill -INT 0' INT
+# what the command runs beside itself does not hear an interrupt
+trap 'trap - INT TERM; leave; kill -TERM 0' INT TERM
 
 fail() {
     echo "$name: $*" >&2
@@ -64,12 +64,12 @@ old() { # PROGRAM
 
 # Proves one crate beside others, by rt, in a folder with a log of its own; the crates below it are proved already.
 prove() { # CRATE
-    mkdir -p -- "$room/$1/target/log"
-    sed -n "/^$1:/p" "$top/crates.txt" >"$room/$1/crates.txt"
-    ln -s -- "$top/crates" "$room/$1/crates"
-    for part in rlib stamp obj bin; do ln -s -- "$top/target/$part" "$room/$1/target/$part"; done
+    mkdir -p -- "$room/way/$1/target/log"
+    sed -n "/^$1:/p" "$top/crates.txt" >"$room/way/$1/crates.txt"
+    ln -s -- "$top/crates" "$room/way/$1/crates"
+    for part in rlib stamp obj bin; do ln -s -- "$top/target/$part" "$room/way/$1/target/$part"; done
     began=$(date +%s)
-    (cd -- "$room/$1" && RT_JOBS=1 rt check "$1") >"$room/$1/said" 2>&1 </dev/null
+    (cd -- "$room/way/$1" && RT_JOBS=1 rt check "$1") >"$room/way/$1/said" 2>&1 </dev/null
     echo "$1 $? $(($(date +%s) - began))" >"$room/ended"
 }
 
@@ -102,11 +102,11 @@ build() { # MINUTES PROGRAM...
         read -r crate status seconds <&3
         running=$((running - 1)) count=$((count + 1)) proved="$proved$crate "
         if [ "$status" -ne 0 ]; then
-            cat -- "$room/$crate/said" >&2
+            cat -- "$room/way/$crate/said" >&2
             wait
             fail "it could not be built: $crate is not proved"
         fi
-        echo "$name: $count of $most proved: $crate ($seconds s)" >&2
+        grep -q 'unchanged since it was last proved' "$room/way/$crate/said" || echo "$name: $count of $most proved: $crate ($seconds s)" >&2
     done
     # the toolchain's own word on all of it; it finds each crate proved
     said=$(cd -- "$top" && rt check "$@" 2>&1 </dev/null) || {
