@@ -1,4 +1,4 @@
--- What a line, a word and its characters are at their borders, from both sides: "A line is words with single blanks between them", numbers are decimal, 0 to 2^64-1, bytes are pairs of hexadecimal digits in either case.
+-- What a line, a word and its characters are at their borders, from both sides (docs/REPLAY.md, "Lines"): "A line is words with single blanks between them", numbers are decimal, 0 to 2^64-1, bytes are pairs of hexadecimal digits in either case.
 use Prim.Native.Nat.{ℕ, _-_, _^_}
 use mathlib.Core.Path.{_≡_}
 use mathlib.Core.Bool.{Bool, true, false}
