@@ -3,7 +3,7 @@
 -- Assumes nothing.
 use Prim.Native.Nat.{ℕ, zero, suc, _-_}
 use mathlib.Core.Path.{_≡_, refl}
-use mathlib.Core.Bool.{Bool, true, false, not, _||_, and-eq-true-iff}
+use mathlib.Core.Bool.{Bool, true, false, not, _||_}
 use mathlib.Core.List.{List}
 use lib.Dec.{ltb, leb, eqb}
 use lib.ListN.{length}
@@ -46,6 +46,7 @@ use Rattle.endings.specs.declared.Took.{Took}
 use Rattle.steps.specs.declared.TookFrame.{TookFrame}
 use Rattle.steps.specs.declared.Gate.{Gate}
 use Rattle.spaces.specs.Spaces.{recordsFit, recordedOf}
+use Rattle.spaces.proofs.Each.{each}
 use Rattle.steps.specs.Step.{requestAt}
 use Rattle.packets.specs.Begin as begin
 use Rattle.endings.specs.Finish.{finishOf}
@@ -193,11 +194,7 @@ record Sounds (rs : Records) : Type 0 where
   application : soundOf (rs .application) ≡ true
 
 sounds : (rs : Records) → recordsFit rs ≡ true → Sounds rs
-unfolding recordsFit
-sounds rs e =
-    let a = and-eq-true-iff (soundOf (rs .initial)) _ .0 e in
-    let b = and-eq-true-iff (soundOf (rs .handshake)) _ .0 (a .1) in
-    record { initial = a .0; handshake = b .0; application = b .1 }
+sounds rs e = record { initial = each rs e Initial; handshake = each rs e Handshake; application = each rs e Application }
 
 records-test : (rs : Records) → Sounds rs → recordsFit rs ≡ true
 unfolding recordsFit

@@ -18,7 +18,7 @@ use Rattle.numbers.specs.declared.Recovered.{Recovered}
 use Rattle.numbers.specs.declared.Recovered.the-variants as Recovered'
 use Rattle.records.specs.declared.Record.{Record}
 use Rattle.records.specs.declared.Taken.{Taken}
-use Rattle.records.specs.Marks.{soundOf, testOf, checkOf}
+use Rattle.records.specs.Marks.{testOf, checkOf}
 use Rattle.records.specs.Ring.{takenOf}
 use Rattle.records.proofs.Taking.{take-new, added}
 use Rattle.streams.specs.declared.Conn.{Conn}
@@ -36,21 +36,12 @@ use Rattle.headers.specs.declared.Header.{Header}
 use Rattle.headers.specs.declared.Header.the-variants as Header'
 use Rattle.headers.specs.First.{headerOf, sizeIn, reservedOf}
 use Rattle.spaces.specs.Spaces.{recordOf, withRecord, recordsFit, recordedOf}
+use Rattle.spaces.proofs.Each.{each}
 use Rattle.packets.specs.Begin.{refusedOf, closesOf, testedOf, withRecovered, inSpaceOf, withKind, beginOf}
 use Rattle.endings.specs.Finish.{finishOf}
 use Rattle.receive.specs.Taking.{begunOf, tookOf}
 use Rattle.walks.specs.Walk.{stoppedOf}
 use Rattle.demands.specs.Recorded.{NumberRecorded}
-
--- records that fit, each of them
-each : (rs : Records) → recordsFit rs ≡ true → (space : Space) → soundOf (recordOf rs space) ≡ true
-unfolding recordsFit
-each rs e = let a = and-eq-true-iff (soundOf (rs .initial)) (soundOf (rs .handshake) && soundOf (rs .application)) .0 e in let b = and-eq-true-iff (soundOf (rs .handshake)) (soundOf (rs .application)) .0 (a .1) in one (a .0) (b .0) (b .1)
-  where
-    one : soundOf (rs .initial) ≡ true → soundOf (rs .handshake) ≡ true → soundOf (rs .application) ≡ true → (space : Space) → soundOf (recordOf rs space) ≡ true
-    one i h a Initial = i
-    one i h a Handshake = h
-    one i h a Application = a
 
 module _ (c : Conn) (rs : Records) (byte : ℕ) (s : List ℕ) where
   -- what is known of the number of a packet that goes on to its frames

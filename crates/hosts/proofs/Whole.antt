@@ -24,7 +24,7 @@ use Rattle.demands.specs.Heard.{Run, nextShown, shownBy, oneByOne, callsOf}
 use Rattle.demands.proofs.Frames.{Live}
 use Rattle.demands.proofs.OneByOne.{is-live, is-frames, frames-are, header-refused, still-live, whole-is, next-shown}
 use Rattle.hosts.specs.Whole.{WalkedWhole}
-use Rattle.hosts.proofs.Expected.{expected}
+use Rattle.arrivals.proofs.Expected.{expected}
 
 -- ---- frames one by one
 

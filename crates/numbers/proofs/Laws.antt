@@ -34,7 +34,7 @@ itself size t h =
     rw (n, lt-ltb t (2 ^ 62) (omega arith))
 
 -- what is added or taken away is a multiple of the window
-nearest-agrees : (E W t : ℕ) → nearestOf E W t % W ≡ t % W
+pub nearest-agrees : (E W t : ℕ) → nearestOf E W t % W ≡ t % W
 unfolding nearestOf
 nearest-agrees E W t =
     let c = candidateOf E W t in

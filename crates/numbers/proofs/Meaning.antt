@@ -3,7 +3,7 @@
 use mathlib.Core.Path.{_≡_, refl, sym, _∙_, ap}
 use mathlib.Core.Logic.{_⊎_, inl, inr, ⊎-elim}
 use Prim.Native.Nat.{ℕ, _+_, _-_, _*_, _/_, _%_, _^_, _≤_, _<_}
-use native.Mathlib.Nat.{suc-mul, mul-le-mul-right, mod-lt, div-add-mod'}
+use native.Mathlib.Nat.{suc-mul, mul-le-mul-right, mod-lt, mod-mod, div-add-mod'}
 use native.Mathlib.Omega.{arith}
 use borrow.Author.Tests.{lt-ltb, le-ltb}
 use lib.Dec.{ltb}
@@ -17,7 +17,7 @@ use Rattle.numbers.specs.Numbers.{windowOf, candidateOf, nearestOf, reco
 use Rattle.numbers.specs.Sound.{Sound}
 use Rattle.numbers.specs.Nearest.{between, Nearest}
 use Rattle.numbers.proofs.Nearest.{each-window, Low, High, up, down, stay}
-use Rattle.numbers.proofs.Laws.{window-bounds, sound}
+use Rattle.numbers.proofs.Laws.{window-bounds, nearest-agrees, sound}
 
 -- of two numbers that agree, the higher one is at least a window above
 apart : (W a b : ℕ) → a % W ≡ b % W → a < b → a + W ≤ b
@@ -34,7 +34,7 @@ none-nearer E W n m even s l e =
     (λ a. let x = apart W n m e a in ⊎-elim (λ p. omega arith) (⊎-elim (λ p. absurd (omega arith)) (λ p. omega arith)) s)
     (λ a. below-or-not m n (λ b. let x = apart W m n (sym e) b in ⊎-elim (λ p. omega arith) (⊎-elim (λ p. omega arith) (λ p. absurd (omega arith))) s) (λ b. omega arith))
 
-even : (size : Size) → windowOf size ≡ 2 * (windowOf size / 2)
+pub even : (size : Size) → windowOf size ≡ 2 * (windowOf size / 2)
 even = each-window (λ (W : ℕ). W ≡ 2 * (W / 2)) refl refl refl refl
 
 -- the result by its rows, each under the tests that lead there
@@ -104,6 +104,25 @@ module _ (E t : ℕ) (size : Size) where
   -- so the nearest number is recovered
   pub nearest-recovered : E < 2 ^ 62 → {n : ℕ} → Nearest E size t n → recoveredOf E size t ≡ Is n
   nearest-recovered h a = let r = always-one h in r .1 ∙ ap Is (one-nearest (recovered-nearest (r .1)) a)
+
+-- a packet number within half a window of E, open below and closed above, is what its low bytes stand for, wherever E stands
+module _ (E n : ℕ) (size : Size) where
+  -- no other number that agrees with it could be the result: it would be a window away
+  alone : (m : ℕ) → Settled E (windowOf size) m → m % windowOf size ≡ n % windowOf size → n < 2 ^ 62 → n ≤ E + windowOf size / 2 → E < n + windowOf size / 2 → m ≡ n
+  alone m s e l above below =
+      let W = windowOf size in
+      let halves = even size in
+      below-or-not m n
+      (λ a. let x = apart W m n e a in absurd (⊎-elim (λ p. omega arith) (⊎-elim (λ p. omega arith) (λ p. omega arith)) s))
+      (λ a. below-or-not n m (λ b. let x = apart W n m (sym e) b in absurd (⊎-elim (λ p. omega arith) (⊎-elim (λ p. omega arith) (λ p. omega arith)) s)) (λ b. omega arith))
+
+  pub exact : n < 2 ^ 62 → n ≤ E + windowOf size / 2 → E < n + windowOf size / 2 → recoveredOf E size (n % windowOf size) ≡ Is n
+  unfolding recoveredOf
+  exact l above below =
+      let W = windowOf size in
+      let t = n % W in
+      let same : nearestOf E W t ≡ n = alone (nearestOf E W t) (settled E W t (window-bounds size .0) (even size)) (nearest-agrees E W t ∙ mod-mod n W) l above below in
+      rw (same, lt-ltb n (2 ^ 62) l)
 
 -- once the largest packet number is recorded, 111 comes exactly where the truncated bits are at most half a window
 module _ (t : ℕ) (size : Size) where

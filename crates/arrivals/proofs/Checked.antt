@@ -26,7 +26,7 @@ use Rattle.spaces.specs.declared.Records.{Records}
 use Rattle.spaces.specs.Spaces.{recordOf, recordsFit}
 use Rattle.packets.specs.declared.Begun.{Begun}
 use Rattle.packets.specs.Begin.{refusedOf, closesOf, testedOf, withRecovered, inSpaceOf, withKind, beginOf}
-use Rattle.hosts.specs.Checked.{numbered, OfKind, InOrder}
+use Rattle.arrivals.specs.Checked.{numbered, OfKind, InOrder}
 
 module _ (c : Conn) (rs : Records) (first : ℕ) (s : List ℕ) (live : isOpen (c .mark) ≡ true) (fit : recordsFit rs ≡ true) where
   -- past 120 and 101

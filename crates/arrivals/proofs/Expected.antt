@@ -1,8 +1,8 @@
 -- The checks before the frames go one after the other, and only the last leaves an acceptance, with the number that was recovered from the top of the record; and the top of a record that fits is one above its largest number.
 -- Assumes nothing.
 use Prim.Native.Nat.{ℕ, _+_, _-_, _^_, _<_}
-use mathlib.Core.Path.{_≡_, refl, _∙_, ap}
-use mathlib.Core.Bool.{true, not, _&&_, and-eq-true-iff}
+use mathlib.Core.Path.{_≡_, refl, sym, _∙_, ap}
+use mathlib.Core.Bool.{true, not, _&&_, true≢false, and-eq-true-iff}
 use mathlib.Core.List.{List}
 use native.Mathlib.Omega.{arith}
 use lib.ListN.{length}
@@ -11,7 +11,7 @@ use borrow.Author.Tests.{not-true, not-false, ltb-true, leb-false, eq-eqb}
 use Rattle.answers.specs.Answers.{accepts}
 use Rattle.answers.specs.declared.Answer.{Answer}
 use Rattle.answers.specs.declared.Answer.the-variants.{Accepted, NoPacket, NoSuchNumber}
-use Rattle.answers.proofs.Choice.{holds}
+use Rattle.answers.proofs.Choice.{holds, below-or-not}
 use Rattle.answers.proofs.Accepts.{accepts-true}
 use Rattle.answers.proofs.Distinct.{impossible}
 use Rattle.wire.specs.Number.{bigEndian}
@@ -30,44 +30,33 @@ use Rattle.records.proofs.Sound.{sound-facts}
 use Rattle.records.proofs.Ring.{rec-in, rec-above}
 use Rattle.streams.specs.declared.Conn.{Conn}
 use Rattle.kinds.specs.declared.Space.{Space}
-use Rattle.kinds.specs.declared.Space.the-variants.{Initial, Handshake, Application}
 use Rattle.streams.specs.Conn.{isOpen}
 use Rattle.kinds.specs.Kinds.{spaceOf}
 use Rattle.spaces.specs.declared.Records.{Records}
 use Rattle.spaces.specs.Spaces.{recordOf, recordsFit}
+use Rattle.spaces.proofs.Each.{each}
 use Rattle.packets.specs.declared.Begun.{Begun}
 use Rattle.packets.specs.Begin.{refusedOf, closesOf, testedOf, withRecovered, inSpaceOf, withKind, beginOf}
-use Rattle.accounts.proofs.Tests.{not-both}
-use Rattle.hosts.specs.Expected.{OneAbove, Numbered, Expected}
+use Rattle.arrivals.specs.Expected.{OneAbove, Numbered, Expected}
 
 -- ---- the top of a record that fits
 
-below-top : (R : Record) (m : ℕ) → recorded R m ≡ true → m < R .top
+pub below-top : (R : Record) (m : ℕ) → recorded R m ≡ true → m < R .top
 unfolding recorded
 below-top R m e = ltb-true m (R .top) (and-eq-true-iff (ltb m (R .top)) (leb (R .top) (m + 8192) && eqb (bitAt (R .words) m) 1) .0 e .0)
 
-one-above : (R : Record) → Sound R → OneAbove R (R .top)
+pub one-above : (R : Record) → Sound R → OneAbove R (R .top)
 one-above R s = record {
   above-all = below-top R;
   is-recorded = λ p. rec-in R (R .top - 1) (omega arith) (omega arith) ∙ eq-eqb _ 1 (s .last p);
   if-none = λ z m. rec-above R m (omega (arith, z));
 }
 
--- of each of the three
-sound-in : (rs : Records) → recordsFit rs ≡ true → (space : Space) → soundOf (recordOf rs space) ≡ true
-unfolding recordsFit
-sound-in rs e space = go space
-  where
-    a : (soundOf (rs .initial) ≡ true) × (soundOf (rs .handshake) && soundOf (rs .application) ≡ true)
-    a = and-eq-true-iff (soundOf (rs .initial)) (soundOf (rs .handshake) && soundOf (rs .application)) .0 e
-
-    b : (soundOf (rs .handshake) ≡ true) × (soundOf (rs .application) ≡ true)
-    b = and-eq-true-iff (soundOf (rs .handshake)) (soundOf (rs .application)) .0 (a .1)
-
-    go : (space : Space) → soundOf (recordOf rs space) ≡ true
-    go Initial = a .0
-    go Handshake = b .0
-    go Application = b .1
+-- there is one number above the largest recorded
+pub one-such : (R : Record) (D E : ℕ) → OneAbove R D → OneAbove R E → D ≡ E
+one-such R D E d e =
+    below-or-not D E (λ l. absurd (omega (arith, d .above-all (E - 1) (e .is-recorded (omega arith))))) (λ l.
+    below-or-not E D (λ m. absurd (omega (arith, e .above-all (D - 1) (d .is-recorded (omega arith))))) (λ m. omega arith))
 
 -- ---- the checks one after the other
 
@@ -89,7 +78,7 @@ module _ (c : Conn) (rs : Records) (first : ℕ) (s : List ℕ) (sound : (space 
   unfolding testedOf refusedOf closesOf
   tested kind number h r =
       let R = recordOf rs (spaceOf kind) in
-      holds Passes (not (accepts (testOf R number))) _ _ (λ t e. absurd (not-both _ (ap accepts e) (not-true _ t))) (λ t.
+      holds Passes (not (accepts (testOf R number))) _ _ (λ t e. absurd (true≢false (sym (ap accepts e) ∙ not-true _ t))) (λ t.
       holds Passes (reservedOf first) _ _ (λ b e. impossible cc) (λ b.
       holds Passes (leb (length s) n) _ _ (λ l e. impossible cc) (λ l e. record {
         kind = h;
@@ -122,4 +111,4 @@ unfolding beginOf refusedOf
 expected c rs fits first s =
     holds (λ (b : Begun). b .answer ≡ Accepted → Numbered rs first s b) (not (fits && recordsFit rs)) _ _ (λ t e. impossible cc) (λ t.
     holds (λ (b : Begun). b .answer ≡ Accepted → Numbered rs first s b) (not (isOpen (c .mark))) _ _ (λ o e. impossible cc) (λ o.
-    kinds c rs first s (sound-in rs (and-eq-true-iff fits (recordsFit rs) .0 (not-false _ t) .1)) (headerOf first) refl))
+    kinds c rs first s (each rs (and-eq-true-iff fits (recordsFit rs) .0 (not-false _ t) .1)) (headerOf first) refl))
