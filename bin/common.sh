@@ -84,7 +84,7 @@ build() { # MINUTES PROGRAM...
     # as many as rt itself would run: a check takes up to 1 GB
     jobs=${RT_JOBS:-$(nproc 2>/dev/null || echo 1)}
     [ -n "${RT_JOBS:-}" ] || [ "$jobs" -le 4 ] || jobs=4
-    echo "$name: proving the $most crates that it is made of, $jobs at a time, before it runs; from nothing that takes about $minutes minutes on two cores, and later runs start at once" >&2
+    echo "$name: proving the $most crates that it is made of, $jobs at a time, before it runs; from nothing that takes $minutes minutes on two cores, and later runs start at once" >&2
     mkfifo -- "$room/ended" && exec 3<>"$room/ended" || fail "no pipe in $room"
     while [ "$count" -lt "$most" ]; do
         later=''
