@@ -8,12 +8,11 @@ use native.Mathlib.Numerals.{add-one, add-two}
 use native.Mathlib.Omega.{arith}
 use lib.ListN.{length, take, set, length-set}
 use lib.Seq.{take-suc-set, take-set-lt}
-use Rattle.records.specs.declared.Record.{Record}
 use Rattle.ring.specs.declared.Run.the-variants.{Span, Nothing}
-use Rattle.records.specs.Marks.{recorded}
 use Rattle.ring.specs.Runs.{nextRun, afterRun, runsDown, IsRun, RunOf}
 use Rattle.ring.proofs.Meaning.{run-is, apart}
-use Rattle.acks.specs.Ack.{rangesOf, frameOf, ackOf}
+use Rattle.acks.specs.Ack.{rangesOf, frameOf}
+use Rattle.acks.specs.Parts.{Ranged, Framed}
 
 -- the next run, as it is meant
 pub is-run : (P : ℕ → Bool) (k : ℕ) {high low : ℕ} → nextRun P k ≡ Span high low → IsRun P k high low
@@ -80,12 +79,25 @@ module _ (P : ℕ → Bool) (low : ℕ) (start numbers : List ℕ) (bottom n : �
 pub begin : (P : ℕ → Bool) (low : ℕ) (start : List ℕ) → length start ≡ 67 → (0 < low → P (low - 1) ≡ false) → Going P low start start low 5 31
 begin P low start h s = record { left = refl; from = omega arith; long = h; stop = s; count = refl; holds = refl }
 
+-- the five numbers before the ranges, of which the fourth is still to come
+head : (l : List ℕ) (a b c e : ℕ) → length l ≡ 67 → (d : ℕ) × (take 5 (set (set (set (set l 0 a) 1 b) 2 c) 4 e) ≡ a ∷ b ∷ c ∷ d ∷ e ∷ [])
+head (v ∷ w ∷ x ∷ d ∷ z ∷ l) a b c e h = (d, refl)
+head [] a b c e h = absurd (omega arith)
+head (v ∷ []) a b c e h = absurd (omega arith)
+head (v ∷ w ∷ []) a b c e h = absurd (omega arith)
+head (v ∷ w ∷ x ∷ []) a b c e h = absurd (omega arith)
+head (v ∷ w ∷ x ∷ d ∷ []) a b c e h = absurd (omega arith)
+
 -- the whole frame: the count of ranges goes to its place among the first five
-pub framed : (R : Record) (delay high low : ℕ) (numbers : List ℕ) (count : ℕ) → nextRun (recorded R) (R .top) ≡ Span high low
-    → count ≡ 5 + 2 * length (runsDown 31 (recorded R) low)
-    → take count numbers ≡ (2 ∷ high ∷ delay ∷ 0 ∷ (high - low) ∷ []) ++ rangesOf low (runsDown 31 (recorded R) low)
-    → take count (set numbers 3 ((count - 5) / 2)) ≡ ackOf R delay
-unfolding ackOf frameOf
-framed R delay high low numbers count e n h =
-    let half : (count - 5) / 2 ≡ length (runsDown 31 (recorded R) low) = omega arith in
-    rw (take-set-lt count numbers 3 ((count - 5) / 2) (omega arith), h, more (recorded R) 31 (R .top) e, half)
+pub framed : (P : ℕ → Bool) (top delay high low : ℕ) (start numbers : List ℕ) (count : ℕ) → nextRun P top ≡ Span high low → length start ≡ 67
+    → Ranged P low (set (set (set (set start 0 2) 1 high) 2 delay) 4 (high - low)) count numbers
+    → Framed P top delay count (set numbers 3 ((count - 5) / 2))
+unfolding frameOf
+framed P top delay high low start numbers count e h r =
+    let d = head start 2 high delay (high - low) h in
+    let half : (count - 5) / 2 ≡ length (runsDown 31 P low) = omega (arith, r .count) in
+    record {
+      long = rw length-set (r .long);
+      most = r .most;
+      holds = rw (take-set-lt count numbers 3 ((count - 5) / 2) (omega (arith, r .count)), r .holds, d .1, more P 31 top e, half);
+    }

@@ -176,6 +176,20 @@ pub fn take_of(words: &mut [u64; 128], top: u64, n: u64) -> Topped
     Topped { answer, top: next }
 }
 
+// The next run in words that are lent; 120 if they are no record.
+fn next_run_of(words: &[u64; 128], top: u64, below: u64) -> Found
+    ensures { λ r. ⌜ r ≡ foundOf (joined (now (words .entry)) top) below ⌝ }
+{
+    let Answer::Accepted = check_of(words, top) else {
+        return Found::Refused {
+            answer: Answer::DoesNotFit,
+        };
+    };
+    Found::Is {
+        run: ring::next_run(words, top, below),
+    }
+}
+
 impl Record {
     // The record of a space of which nothing came.
     pub fn new() -> Self
@@ -219,13 +233,6 @@ impl Record {
     pub fn next_run(self, below: u64) -> Found
         ensures { λ r. ⌜ r ≡ foundOf self below ⌝ }
     {
-        let Answer::Accepted = check_of(&self.words, self.top) else {
-            return Found::Refused {
-                answer: Answer::DoesNotFit,
-            };
-        };
-        Found::Is {
-            run: ring::next_run(&self.words, self.top, below),
-        }
+        next_run_of(&self.words, self.top, below)
     }
 }

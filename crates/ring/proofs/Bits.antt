@@ -25,7 +25,7 @@ unfolding bit
 bit-shift w k j = ap (λ (x : ℕ). x % 2) (sym (shr-shr w k j))
 
 -- the bits below k are those of the word's low part
-bit-low : (w k i : ℕ) → i < k → bit (w % 2 ^ k) i ≡ bit w i
+pub bit-low : (w k i : ℕ) → i < k → bit (w % 2 ^ k) i ≡ bit w i
 unfolding bit
 bit-low w k i h =
     let e : (k - (i + 1) + 1) + i ≡ k = omega arith in
@@ -37,7 +37,7 @@ unfolding bit
 bit-past w k i h l = ap (λ (x : ℕ). x % 2) (div-eq-of-lt (omega (arith, pow-mono l)))
 
 -- a word put together from a high part and k low bits
-cat-low : (a k l i : ℕ) → l < 2 ^ k → i < k → bit (a * 2 ^ k + l) i ≡ bit l i
+pub cat-low : (a k l i : ℕ) → l < 2 ^ k → i < k → bit (a * 2 ^ k + l) i ≡ bit l i
 cat-low a k l i h g = sym (bit-low (a * 2 ^ k + l) k i g) ∙ ap (λ (x : ℕ). bit x i) (low a k h)
 
 cat-high : (a k l i : ℕ) → l < 2 ^ k → k ≤ i → bit (a * 2 ^ k + l) i ≡ bit a (i - k)
@@ -101,7 +101,7 @@ without-fits w lo hi h l =
     omega (arith, div-add-mod' w (2 ^ hi), mod-le (w % 2 ^ hi) (2 ^ lo))
 
 -- the highest bit
-top-bit : (a j : ℕ) → 2 ^ j ≤ a → a < 2 ^ suc j → bit a j ≡ 1
+pub top-bit : (a j : ℕ) → 2 ^ j ≤ a → a < 2 ^ suc j → bit a j ≡ 1
 unfolding bit
 top-bit a j l h = ap (λ (x : ℕ). x % 2) (div-eq-of-lt-le {k = 1} (2 ^ j) {m = a} (omega arith) (omega arith))
 

@@ -19,9 +19,6 @@ bit-at-lt ws m = bit-lt (getD ws (m / 64 % 128) 0) (m % 64)
 pub not-zero : (ws : List ℕ) (m : ℕ) → (bitAt ws m ≡ 0 → ⊥) → bitAt ws m ≡ 1
 not-zero ws m f = omega (arith, bit-at-lt ws m)
 
-pub not-one : (ws : List ℕ) (m : ℕ) → (bitAt ws m ≡ 1 → ⊥) → bitAt ws m ≡ 0
-not-one ws m f = omega (arith, bit-at-lt ws m)
-
 module _ (ws : List ℕ) (T m : ℕ) where
   pub marked-in : m < T → T ≤ m + 8192 → marked ws T m ≡ eqb (bitAt ws m) 1
   marked-in a b = simp (lt-ltb _ _ a, le-leb _ _ b)

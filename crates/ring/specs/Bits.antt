@@ -18,6 +18,10 @@ bit w i = w / 2 ^ i % 2
 unfoldable pub bitAt : List ℕ → ℕ → ℕ
 bitAt ws m = bit (getD ws (m / 64 % 128) 0) (m % 64)
 
+-- the bit of the number m says v: that it came, or that it is missing
+abbrev pub alike : List ℕ → Bool → ℕ → Bool
+alike ws v m = eqb (bitAt ws m) (asBit v)
+
 -- the number m is among the 8,192 numbers below T, and its bit is set
 abbrev pub marked : List ℕ → ℕ → ℕ → Bool
 marked ws T m = ltb m T && (leb T (m + 8192) && eqb (bitAt ws m) 1)

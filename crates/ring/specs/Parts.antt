@@ -3,7 +3,7 @@ use Prim.Native.Nat.{ℕ, _-_, _≤_, _<_}
 use mathlib.Core.Path.{_≡_}
 use mathlib.Core.Bool.{Bool, true, false}
 use mathlib.Core.List.{List}
-use Rattle.ring.specs.Bits.{asBit, bit, bitAt}
+use Rattle.ring.specs.Bits.{bit, bitAt}
 
 -- r is the word w without the bits from lo up to hi
 pub record Without (w lo hi r : ℕ) : Type 0 where
@@ -16,6 +16,10 @@ pub record Put (w b r : ℕ) : Type 0 where
   pub same : bit r b ≡ 1
   pub other : (i : ℕ) → (i ≡ b → ⊥) → bit r i ≡ bit w i
 
+-- r is the word w with each bit the other way
+abbrev pub Complement : ℕ → ℕ → Type 0
+Complement w r = (i : ℕ) → i < 64 → bit r i ≡ 1 - bit w i
+
 -- the word w has no bit from s on
 abbrev pub Blank : ℕ → ℕ → Type 0
 Blank w s = (i : ℕ) → s ≤ i → i < 64 → bit w i ≡ 0
@@ -23,13 +27,6 @@ Blank w s = (i : ℕ) → s ≤ i → i < 64 → bit w i ≡ 0
 -- no slot of the ring is marked from T on
 abbrev pub Clean : List ℕ → ℕ → Type 0
 Clean ws T = (m : ℕ) → T ≤ m → m < 8192 → bitAt ws m ≡ 0
-
--- from r up to `at` all bits are v, and no lower, unless r is the bottom
-pub record Down (ws : List ℕ) (at bottom : ℕ) (v : Bool) (r : ℕ) : Type 0 where
-  pub within : r ≤ at
-  pub least : bottom ≤ r
-  pub all : (m : ℕ) → r ≤ m → m < at → bitAt ws m ≡ asBit v
-  pub stop : bottom < r → bitAt ws (r - 1) ≡ asBit v → ⊥
 
 -- a claim decided by a bool
 pub record Decides (P : Type 0) (r : Bool) : Type 0 where
