@@ -60,9 +60,6 @@ missing-ones w x c i l = go (bit w i) (bit-lt w i) (c i l)
 
 -- from the number below `end` down
 module _ (ws : List ℕ) (v : Bool) (end x : ℕ) (pos : 0 < end) (told : Others (getD ws ((end - 1) / 64 % 128) 0) v x) where
-  abbrev word : ℕ
-  word = getD ws ((end - 1) / 64 % 128) 0
-
   abbrev shift : ℕ
   shift = 63 - (end - 1) % 64
 

@@ -1,12 +1,14 @@
 -- What is left of a row from a place on: the number there and the rest; and nothing at its end.
 -- Assumes nothing.
 use mathlib.Core.Path.{_≡_, sym, _∙_}
-use mathlib.Core.Bool.{true, _&&_, and-eq-true-iff}
+use mathlib.Core.Bool.{true, _&&_, and-assoc, and-eq-true-iff}
 use mathlib.Core.List.{List, [], _∷_, _++_}
 use Prim.Native.Nat.{ℕ, _+_, _-_, _^_, _≤_, _<_}
 use native.Mathlib.Numerals.{add-one}
 use native.Mathlib.Omega.{arith}
-use borrow.Author.Tests.{leb-true}
+use native.Mathlib.Decide.{decLe}
+use borrow.Author.Tests.{leb-true, le-leb, lt-leb}
+use lib.Bits.{bitOr, or-lt, or-add-and, and-le-l, and-le-r}
 use lib.Dec.{leb}
 use lib.ListN.{length, getD, drop}
 use lib.Seq.{sets, drop-cons, drop-length}
@@ -20,6 +22,15 @@ use Rattle.wire.proofs.Writing.{same-length}
 use Rattle.wire.proofs.Exit.{length-bytes, unrefused, accepted}
 use Rattle.row.specs.Row.{inRange, sizeAll, bytesAll}
 
+-- two numbers joined are in range exactly if both are
+or-range : (a b : ℕ) → leb (bitOr a b) (2 ^ 62 - 1) ≡ (leb a (2 ^ 62 - 1) && leb b (2 ^ 62 - 1))
+or-range a b = go (decLe a (2 ^ 62 - 1)) (decLe b (2 ^ 62 - 1))
+  where
+    go : Dec (a ≤ 2 ^ 62 - 1) → Dec (b ≤ 2 ^ 62 - 1) → leb (bitOr a b) (2 ^ 62 - 1) ≡ (leb a (2 ^ 62 - 1) && leb b (2 ^ 62 - 1))
+    go (yes p) (yes q) = rw (le-leb a (2 ^ 62 - 1) p, le-leb b (2 ^ 62 - 1) q) (le-leb (bitOr a b) (2 ^ 62 - 1) (omega (arith, or-lt 62 a b (omega arith) (omega arith))))
+    go (yes p) (no q) = rw (le-leb a (2 ^ 62 - 1) p, lt-leb b (2 ^ 62 - 1) (omega arith)) (lt-leb (bitOr a b) (2 ^ 62 - 1) (omega (arith, or-add-and a b, and-le-l a b, and-le-r a b)))
+    go (no p) d = rw (lt-leb a (2 ^ 62 - 1) (omega arith)) (lt-leb (bitOr a b) (2 ^ 62 - 1) (omega (arith, or-add-and a b, and-le-l a b, and-le-r a b)))
+
 module _ (vs : List ℕ) (i : ℕ) where
   pub step : i < length vs → drop i vs ≡ getD vs i 0 ∷ drop (i + 1) vs
   step h = rw (add-one, drop-cons vs i 0 h)
@@ -27,6 +38,11 @@ module _ (vs : List ℕ) (i : ℕ) where
   pub range-step : i < length vs → inRange (drop i vs) ≡ (leb (getD vs i 0) (2 ^ 62 - 1) && inRange (drop (i + 1) vs))
   unfolding inRange
   range-step h = rw (step h)
+
+  -- those before the place are told by all their bits together
+  pub range-joined : (all : ℕ) → i < length vs
+      → (leb all (2 ^ 62 - 1) && inRange (drop i vs)) ≡ (leb (bitOr all (getD vs i 0)) (2 ^ 62 - 1) && inRange (drop (i + 1) vs))
+  range-joined all h = rw (range-step h, or-range all (getD vs i 0)) (sym (and-assoc (leb all (2 ^ 62 - 1)) (leb (getD vs i 0) (2 ^ 62 - 1)) (inRange (drop (i + 1) vs))))
 
   pub size-step : i < length vs → sizeAll (drop i vs) ≡ sizeOf (getD vs i 0) + sizeAll (drop (i + 1) vs)
   unfolding sizeAll

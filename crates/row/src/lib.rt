@@ -2,6 +2,7 @@
 ghost use mathlib.Core.Path.{_≡_};
 ghost use mathlib.Core.Bool.{true};
 ghost use Prim.Native.Nat.{_+_, _≤_};
+ghost use lib.Dec.{leb};
 ghost use lib.ListN.{length};
 ghost use lib.Seq.{sets};
 ghost use Rattle.row.specs.Row.{inRange, sizeAll, bytesAll, rowDraft};
@@ -9,18 +10,18 @@ ghost use Rattle.wire.specs.Writing.{writes};
 use answers::Answer;
 use wire::Wrote;
 
-// Whether none is above 2^62-1.
+// Whether none is above 2^62-1: so it is exactly if none has a bit above the 62 low ones. It does not stop at the first that has, so that several
+// numbers are looked at in one step.
 pub fn in_range(numbers: &[u64]) -> bool
     ensures { λ r. ⌜ r ≡ inRange (now (numbers .entry)) ⌝ }
 {
+    let mut all = 0;
     let mut i = 0;
     while i < numbers.len() {
-        if wire::MOST < numbers[i] {
-            return false;
-        }
+        all |= numbers[i];
         i += 1;
     }
-    true
+    all <= wire::MOST
 }
 
 // How many bytes their shortest forms have together.
@@ -34,6 +35,16 @@ pub fn size(numbers: &[u64]) -> usize
         i += 1;
     }
     total
+}
+
+// Whether so many bytes are room for all of them. No form is longer than 8 bytes, so where there is room for that none is sized.
+fn fits(numbers: &[u64], room: usize) -> bool
+    ensures { λ r. ⌜ r ≡ leb (sizeAll (now (numbers .entry))) room ⌝ }
+{
+    if numbers.len() <= room / 8 {
+        return true;
+    }
+    size(numbers) <= room
 }
 
 // Writes them at a place with room for all.
@@ -67,7 +78,7 @@ pub fn write(out: &mut [u8], at: usize, numbers: &[u64]) -> Wrote
             answer: Answer::NoRoom,
         };
     }
-    if out.len() - at < size(numbers) {
+    if !fits(numbers, out.len() - at) {
         return Wrote::Refused {
             answer: Answer::NoRoom,
         };
