@@ -4,7 +4,7 @@ ghost use Prim.Native.Nat.{_+_, _-_, _≤_, _<_, _^_};
 ghost use lib.ListN.{length};
 ghost use lib.Seq.{sets};
 ghost use Rattle.wire.specs.Number.{bigEndian, spelled, numberAt, bytesOf, sizeOf};
-ghost use Rattle.wire.specs.Writing.{writes, numberDraft};
+ghost use Rattle.wire.specs.Writing.{Bytes, writes, numberDraft};
 use answers::Answer;
 
 // What reading a number at a place finds: its value and the place after it, or an end of the bytes before its own.
@@ -116,29 +116,6 @@ fn put_four(out: &mut [u8], at: usize, x: u64)
     put_two(out, at + 2, x);
 }
 
-// Writes v, which is no more than MOST, at a place with room for it.
-fn put(out: &mut [u8], at: usize, v: u64) -> usize
-    requires { ⌜ (v < 2 ^ 62) × (at + sizeOf v ≤ length (now out)) ⌝ }
-    ensures { λ r. ⌜ (r ≡ at + sizeOf v) × (now (out .exit) ≡ sets (now (out .entry)) at (bytesOf v)) ⌝ }
-{
-    if v < 64 {
-        out[at] = (v % 256) as u8;
-        return at + 1;
-    }
-    if v < 16384 {
-        put_two(out, at, 16384 + v);
-        return at + 2;
-    }
-    if v < 1073741824 {
-        put_four(out, at, 2147483648 + v);
-        return at + 4;
-    }
-    let x = 13835058055282163712 + v;
-    put_four(out, at, x / 4294967296);
-    put_four(out, at + 4, x);
-    at + 8
-}
-
 // How many bytes an output of n has from a place on.
 fn room(n: usize, at: usize) -> usize
     ensures { λ r. ⌜ r ≡ n - at ⌝ }
@@ -149,10 +126,60 @@ fn room(n: usize, at: usize) -> usize
     n - at
 }
 
+// Writes a number of one byte at a place, or says that there is no room.
+fn write_one(out: &mut [u8], at: usize, v: u64) -> Wrote
+    requires { ⌜ v < 64 ⌝ }
+    ensures { λ r. ⌜ (r, now (out .exit)) ≡ writes (Bytes (bytesOf v)) (now (out .entry)) at ⌝ }
+{
+    if out.len() <= at {
+        return Wrote::Refused {
+            answer: Answer::NoRoom,
+        };
+    }
+    out[at] = (v % 256) as u8;
+    Wrote::To { next: at + 1 }
+}
+
+// The same for two bytes.
+fn write_two(out: &mut [u8], at: usize, v: u64) -> Wrote
+    requires { ⌜ (64 ≤ v) × (v < 16384) ⌝ }
+    ensures { λ r. ⌜ (r, now (out .exit)) ≡ writes (Bytes (bytesOf v)) (now (out .entry)) at ⌝ }
+{
+    if room(out.len(), at) < 2 {
+        return Wrote::Refused {
+            answer: Answer::NoRoom,
+        };
+    }
+    put_two(out, at, 16384 + v);
+    Wrote::To { next: at + 2 }
+}
+
+// Writes v, which has four bytes or eight, at a place with room for it.
+fn put_long(out: &mut [u8], at: usize, v: u64) -> usize
+    requires { ⌜ (16384 ≤ v) × (v < 2 ^ 62) × (at + sizeOf v ≤ length (now out)) ⌝ }
+    ensures { λ r. ⌜ (r ≡ at + sizeOf v) × (now (out .exit) ≡ sets (now (out .entry)) at (bytesOf v)) ⌝ }
+{
+    if v < 1073741824 {
+        put_four(out, at, 2147483648 + v);
+        return at + 4;
+    }
+    let x = 13835058055282163712 + v;
+    put_four(out, at, x / 4294967296);
+    put_four(out, at + 4, x);
+    at + 8
+}
+
 // Writes the shortest form of v at a place. A refusal leaves the output untouched, and so does acceptance outside of v's bytes.
+// The short forms come first, each with its own test for room: most numbers are short, and above 2^62-1 is none of these.
 pub fn write(out: &mut [u8], at: usize, v: u64) -> Wrote
     ensures { λ r. ⌜ (r, now (out .exit)) ≡ writes (numberDraft v) (now (out .entry)) at ⌝ }
 {
+    if v < 64 {
+        return write_one(out, at, v);
+    }
+    if v < 16384 {
+        return write_two(out, at, v);
+    }
     if MOST < v {
         return Wrote::Refused {
             answer: Answer::Unwritable,
@@ -164,6 +191,6 @@ pub fn write(out: &mut [u8], at: usize, v: u64) -> Wrote
         };
     }
     Wrote::To {
-        next: put(out, at, v),
+        next: put_long(out, at, v),
     }
 }
