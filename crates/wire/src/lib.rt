@@ -1,6 +1,7 @@
 // Numbers on the wire (RFC 9000, section 16): read, sized and written.
 ghost use mathlib.Core.Path.{_≡_};
-ghost use Prim.Native.Nat.{_+_, _-_, _≤_, _<_, _^_};
+ghost use Prim.Native.Nat.{_+_, _≤_, _<_, _^_};
+ghost use lib.Dec.{leb};
 ghost use lib.ListN.{length};
 ghost use lib.Seq.{sets};
 ghost use Rattle.wire.specs.Number.{bigEndian, spelled, numberAt, bytesOf, sizeOf};
@@ -116,14 +117,14 @@ fn put_four(out: &mut [u8], at: usize, x: u64)
     put_two(out, at + 2, x);
 }
 
-// How many bytes an output of n has from a place on.
-fn room(n: usize, at: usize) -> usize
-    ensures { λ r. ⌜ r ≡ n - at ⌝ }
+// Whether an output of n bytes has room for so many from a place on.
+fn has_room(n: usize, at: usize, bytes: usize) -> bool
+    ensures { λ r. ⌜ r ≡ leb (at + bytes) n ⌝ }
 {
-    if n < at {
-        return 0;
+    if n < bytes {
+        return false;
     }
-    n - at
+    at <= n - bytes
 }
 
 // Writes a number of one byte at a place, or says that there is no room.
@@ -131,7 +132,7 @@ fn write_one(out: &mut [u8], at: usize, v: u64) -> Wrote
     requires { ⌜ v < 64 ⌝ }
     ensures { λ r. ⌜ (r, now (out .exit)) ≡ writes (Bytes (bytesOf v)) (now (out .entry)) at ⌝ }
 {
-    if out.len() <= at {
+    if !has_room(out.len(), at, 1) {
         return Wrote::Refused {
             answer: Answer::NoRoom,
         };
@@ -145,7 +146,7 @@ fn write_two(out: &mut [u8], at: usize, v: u64) -> Wrote
     requires { ⌜ (64 ≤ v) × (v < 16384) ⌝ }
     ensures { λ r. ⌜ (r, now (out .exit)) ≡ writes (Bytes (bytesOf v)) (now (out .entry)) at ⌝ }
 {
-    if room(out.len(), at) < 2 {
+    if !has_room(out.len(), at, 2) {
         return Wrote::Refused {
             answer: Answer::NoRoom,
         };
@@ -185,7 +186,7 @@ pub fn write(out: &mut [u8], at: usize, v: u64) -> Wrote
             answer: Answer::Unwritable,
         };
     }
-    if room(out.len(), at) < size(v) {
+    if !has_room(out.len(), at, size(v)) {
         return Wrote::Refused {
             answer: Answer::NoRoom,
         };
