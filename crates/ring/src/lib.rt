@@ -98,14 +98,13 @@ fn span(high: u64, low: u64) -> Run
 }
 
 // Where a stretch ends that goes down from below `end`: of numbers that came, or of numbers that are missing. One that goes past `bottom` ends anywhere there.
-// The idea: with the first number shifted to the top of its word, the word's leading zeros are numbers that are missing, and its
-// complement's are numbers that came. Where none of the others is left, all the rest of the word is passed, 64 of a full one.
 fn end_of(words: &[u64; 128], mut end: u64, bottom: u64, came: bool) -> u64
     ensures { λ r. ⌜ max bottom r ≡ max bottom (lowest (alike (now (words .entry)) came) end) ⌝ }
 {
     while bottom < end {
         let first = end - 1;
         let word = words[(first / 64 % 128) as usize];
+        // With the first number at the top, leading zeros are numbers that are missing, and the complement's are numbers that came.
         let others = (if came { complement(word) } else { word }) << (63 - first % 64);
         if others != 0 {
             return end - u64::leading_zeros(others) as u64;
