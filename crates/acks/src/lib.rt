@@ -1,4 +1,5 @@
-// The acknowledgement of a space (RFC 9000, 19.3): a record written as an ACK frame of at most 32 runs.
+// The acknowledgement of a space (RFC 9000, 19.3): a record written as an ACK frame of at most 32 runs. Its numbers are gathered in the order
+// of the wire, five and two for each run but the first, and written as a row. docs/ACK.md has it for a lecture.
 ghost use mathlib.Core.Path.{_≡_};
 ghost use lib.ListN.{length};
 ghost use Rattle.wire.specs.Writing.{writes};
@@ -10,8 +11,6 @@ use answers::Answer;
 use records::Record;
 use ring::Run;
 use wire::Wrote;
-
-// The numbers of an ACK frame are gathered in the order of the wire: five, and two for each run but the first.
 
 // The gaps and lengths of the runs below a run whose lowest number is `low`, from the sixth number on; 31 runs at most. Tells how many numbers there are then.
 fn ranges(words: &[u64; 128], top: u64, low: u64, numbers: &mut [u64; 67]) -> usize
