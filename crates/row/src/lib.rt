@@ -38,7 +38,7 @@ pub fn size(numbers: &[u64]) -> usize
 }
 
 // Whether so many bytes are room for all of them. No form is longer than 8 bytes, so where there is room for that none is sized.
-fn fits(numbers: &[u64], room: usize) -> bool
+fn has_room(numbers: &[u64], room: usize) -> bool
     ensures { λ r. ⌜ r ≡ leb (sizeAll (now (numbers .entry))) room ⌝ }
 {
     if numbers.len() <= room / 8 {
@@ -78,7 +78,7 @@ pub fn write(out: &mut [u8], at: usize, numbers: &[u64]) -> Wrote
             answer: Answer::NoRoom,
         };
     }
-    if !fits(numbers, out.len() - at) {
+    if !has_room(numbers, out.len() - at) {
         return Wrote::Refused {
             answer: Answer::NoRoom,
         };

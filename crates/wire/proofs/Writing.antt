@@ -1,13 +1,13 @@
 -- The law of writing, once for all that is written: what was refused left the output as it was, what was accepted stands at its place and ends where it was answered, and all else stays.
 -- Assumes nothing.
 use mathlib.Core.Path.{_≡_, refl, sym, _∙_, ap, subst}
-use mathlib.Core.Bool.{Bool, true, false}
+use mathlib.Core.Bool.{Bool, true, false, not}
 use mathlib.Core.List.{List, [], _∷_, _++_}
 use mathlib.Core.Logic.{_⊎_, inl, inr, ⊎-elim}
 use Prim.Native.Nat.{ℕ, suc, _+_, _≤_, _<_}
 use native.Mathlib.Omega.{arith}
-use borrow.Author.Tests.{ltb-true, ltb-false, lt-ltb, le-ltb}
-use lib.Dec.{ltb}
+use borrow.Author.Tests.{ltb-true, ltb-false, lt-ltb, le-ltb, leb-true, leb-false, not-true, not-false}
+use lib.Dec.{ltb, leb}
 use lib.ListN.{length, getD, set, length-append}
 use lib.Seq.{sets, length-sets, getD-set-other}
 use Rattle.answers.specs.Choice.{_⇒_∣_}
@@ -40,6 +40,17 @@ module _ (out : List ℕ) (at : ℕ) where
   pub all-written : (l : List ℕ) → at + length l ≤ length out → writes (Bytes l) out at ≡ (To (at + length l), sets out at l)
   unfolding writes
   all-written l h = simp (le-ltb (length out) (at + length l) h)
+
+  -- the same by a test for the room of n bytes, which are all that is to be written
+  module _ (l : List ℕ) (n : ℕ) (long : length l ≡ n) {room : Bool} (told : room ≡ leb (at + n) (length out)) where
+    pub lacked : not room ≡ true → (Refused NoRoom, out) ≡ writes (Bytes l) out at
+    lacked e = let h = leb-false (at + n) (length out) (sym told ∙ not-true room e) in sym (no-room l (omega arith))
+
+    pub room-for : not room ≡ false → at + n ≤ length out
+    room-for e = leb-true (at + n) (length out) (sym told ∙ not-false room e)
+
+    pub filled : not room ≡ false → writes (Bytes l) out at ≡ (To (at + n), sets out at l)
+    filled e = rw (all-written l (omega (arith, room-for e)), long)
 
 -- by the outcome: what holds of a refusal, and of what was accepted
 abbrev Outcome : Draft → List ℕ → ℕ → Wrote × List ℕ → Type 0

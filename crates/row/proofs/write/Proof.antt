@@ -28,13 +28,13 @@ returns-3 c =
     let r = z .before .before .before in
     let a = r .before .before .before .args in
     rw (in-range _ (sym (r .in-range .ensures) ∙ not-false _ (z .before .before .if1 .left)))
-    (sym (no-room (now (a .out)) (a .at) (bytesAll (now (a .numbers))) (omega (arith, leb-false (sizeAll (now (a .numbers))) (length (now (a .out)) - a .at) (sym (z .fits2 .ensures) ∙ not-true _ (c .if3 .taken)), length-all (now (a .numbers))))))
+    (sym (no-room (now (a .out)) (a .at) (bytesAll (now (a .numbers))) (omega (arith, leb-false (sizeAll (now (a .numbers))) (length (now (a .out)) - a .at) (sym (z .has-room .ensures) ∙ not-true _ (c .if3 .taken)), length-all (now (a .numbers))))))
 
 put-requires : tie.Need-put-requires
 put-requires c κs =
     let r = c .before .before .before .before .before in
     let a = r .before .before .before .args in
-    (sym (r .in-range .ensures) ∙ not-false _ (c .before .before .before .before .if1 .left), omega (arith, leb-true (sizeAll (now (a .numbers))) (length (now (a .out)) - a .at) (sym (c .before .before .fits2 .ensures) ∙ not-false _ (c .before .if3 .left))))
+    (sym (r .in-range .ensures) ∙ not-false _ (c .before .before .before .before .if1 .left), omega (arith, leb-true (sizeAll (now (a .numbers))) (length (now (a .out)) - a .at) (sym (c .before .before .has-room .ensures) ∙ not-false _ (c .before .if3 .left))))
 
 returns-4 : tie.Need-returns-4
 returns-4 c =
@@ -43,7 +43,7 @@ returns-4 c =
     let r = z .before .before .before in
     let a = r .before .before .before .args in
     let n = length-all (now (a .numbers)) in
-    rw (in-range _ (sym (r .in-range .ensures) ∙ not-false _ (z .before .before .if1 .left)), all-written (now (a .out)) (a .at) (bytesAll (now (a .numbers))) (omega (arith, leb-true (sizeAll (now (a .numbers))) (length (now (a .out)) - a .at) (sym (z .fits2 .ensures) ∙ not-false _ (p .before .before .if3 .left)), n)), n, p .put .ensures .0, p .put .ensures .1)
+    rw (in-range _ (sym (r .in-range .ensures) ∙ not-false _ (z .before .before .if1 .left)), all-written (now (a .out)) (a .at) (bytesAll (now (a .numbers))) (omega (arith, leb-true (sizeAll (now (a .numbers))) (length (now (a .out)) - a .at) (sym (z .has-room .ensures) ∙ not-false _ (p .before .before .if3 .left)), n)), n, p .put .ensures .0, p .put .ensures .1)
 
 pub write-spec : {M : Type 1} → statement M
 write-spec =

@@ -1,14 +1,12 @@
 -- `wire::write` meets its contract: each refusal is the first test that holds, and what is put is the shortest form.
 -- Assumes nothing.
 use borrow.Author.Needs.{needs}
-use mathlib.Core.Path.{sym, _∙_}
-use borrow.Author.Tests.{leb-true, leb-false, not-true, not-false}
-use Prim.Native.Nat.{_+_, _≤_}
+use mathlib.Core.Path.{_≡_, sym, _∙_}
 use lib.ListN.{length}
 use native.Mathlib.Omega.{arith}
 use denote.Ref.{now}
-use Rattle.wire.specs.Number.{sizeOf, bytesOf}
-use Rattle.wire.proofs.Writing.{never, no-room, all-written}
+use Rattle.wire.specs.Number.{bytesOf}
+use Rattle.wire.proofs.Writing.{never, lacked, room-for, filled}
 use Rattle.wire.proofs.Exit.{length-bytes, in-range, out-of-range}
 use Rattle.wire.proofs.write.Statement.{statement}
 use Rattle.wire.proofs.write.Tie as tie
@@ -22,26 +20,28 @@ returns-2 c = let v = c .before .before .before .before .before .before .before 
 returns-3 : tie.Need-returns-3
 returns-3 c = rw (out-of-range _ (c .if3 .taken)) (sym (never _ _ _))
 
+-- the form has as many bytes as it was sized
+long : (c : tie.After-size) → length (bytesOf (c .before .before .before .before .before .args .v)) ≡ c .size .result
+long c = length-bytes (c .before .before .before .before .before .args .v) ∙ sym (c .size .ensures)
+
 returns-4 : tie.Need-returns-4
 returns-4 c =
-    let a = c .before .before .before .before .before .before .before .args in
-    let r = leb-false (a .at + c .before .before .size .result) (length (now (a .out))) (sym (c .before .has-room .ensures) ∙ not-true _ (c .if4 .taken)) in
-    rw (in-range (a .v) (omega arith))
-    (sym (no-room (now (a .out)) (a .at) (bytesOf (a .v)) (omega (arith, length-bytes (a .v), c .before .before .size .ensures))))
-
-room : (c : tie.Else4) → let a = c .before .before .before .before .before .before .before .args in a .at + sizeOf (a .v) ≤ length (now (a .out))
-room c =
-    let a = c .before .before .before .before .before .before .before .args in
-    omega (arith, leb-true (a .at + c .before .before .size .result) (length (now (a .out))) (sym (c .before .has-room .ensures) ∙ not-false _ (c .if4 .left)), c .before .before .size .ensures)
+    let s = c .before .before in
+    let a = s .before .before .before .before .before .args in
+    rw (in-range (a .v) (omega arith)) (lacked (now (a .out)) (a .at) (bytesOf (a .v)) (s .size .result) (long s) (c .before .has-room .ensures) (c .if4 .taken))
 
 put-long-requires : tie.Need-put-long-requires
-put-long-requires c κs = omega (arith, room (c .before))
+put-long-requires c κs =
+    let s = c .before .before .before in
+    let a = s .before .before .before .before .before .args in
+    omega (arith, room-for (now (a .out)) (a .at) (bytesOf (a .v)) (s .size .result) (long s) (c .before .before .has-room .ensures) (c .before .if4 .left), s .size .ensures)
 
 returns-5 : tie.Need-returns-5
 returns-5 c =
-    let p = c .before .before .before .before in
-    let a = p .before .before .before .before .before .before .before .args in
-    rw (in-range (a .v) (omega arith), all-written (now (a .out)) (a .at) (bytesOf (a .v)) (omega (arith, length-bytes (a .v), room p)), length-bytes (a .v), c .before .before .put-long .ensures .0, c .before .before .put-long .ensures .1)
+    let e = c .before .before .before .before in
+    let s = e .before .before in
+    let a = s .before .before .before .before .before .args in
+    rw (in-range (a .v) (omega arith), filled (now (a .out)) (a .at) (bytesOf (a .v)) (s .size .result) (long s) (e .before .has-room .ensures) (e .if4 .left), s .size .ensures, c .before .before .put-long .ensures .0, c .before .before .put-long .ensures .1)
 
 pub write-spec : {M : Type 1} → statement M
 write-spec =

@@ -2,33 +2,36 @@
 -- Assumes nothing.
 use borrow.Author.Needs.{needs}
 use native.Mathlib.Omega.{arith}
-use mathlib.Core.Path.{refl, sym, _∙_}
-use borrow.Author.Tests.{leb-true, leb-false, not-true, not-false}
+use mathlib.Core.Path.{_≡_, refl, _∙_}
 use Prim.Native.Nat.{_+_, _≤_}
 use lib.ListN.{length}
 use denote.Ref.{now}
-use Rattle.wire.specs.Number.{bytesOf, valuesIn}
-use Rattle.wire.proofs.Writing.{no-room, all-written}
+use Rattle.wire.specs.Number.{formOf, bytesOf, valuesIn}
+use Rattle.wire.proofs.Writing.{lacked, room-for, filled}
 use Rattle.wire.proofs.Exit.{length-bytes}
 use Rattle.wire.proofs.Forms.{sized, formed, form-1}
 use Rattle.wire.proofs.write_two.Statement.{statement}
 use Rattle.wire.proofs.write_two.Tie as tie
 
+-- the form has two bytes
+form : (c : tie.After-has-room) → formOf (c .before .before .args .v) ≡ 1
+form c = form-1 (c .before .before .args .v) (omega arith) (omega arith)
+
+long : (c : tie.After-has-room) → length (bytesOf (c .before .before .args .v)) ≡ 2
+long c = let v = c .before .before .args .v in length-bytes v ∙ sized v 1 (form c)
+
 returns : tie.Need-returns
-returns c =
-    let a = c .before .before .before .args in
-    let r = leb-false (a .at + 2) (length (now (a .out))) (sym (c .before .has-room .ensures) ∙ not-true _ (c .if1 .taken)) in
-    sym (no-room (now (a .out)) (a .at) (bytesOf (a .v)) (omega (arith, length-bytes (a .v), sized (a .v) 1 (form-1 (a .v) (omega arith) (omega arith)))))
+returns c = let a = c .before .before .before .args in lacked (now (a .out)) (a .at) (bytesOf (a .v)) 2 (long (c .before)) (c .before .has-room .ensures) (c .if1 .taken)
 
 room : (c : tie.Else1) → let a = c .before .before .before .args in a .at + 2 ≤ length (now (a .out))
-room c = let a = c .before .before .before .args in leb-true (a .at + 2) (length (now (a .out))) (sym (c .before .has-room .ensures) ∙ not-false _ (c .if1 .left))
+room c = let a = c .before .before .before .args in room-for (now (a .out)) (a .at) (bytesOf (a .v)) 2 (long (c .before)) (c .before .has-room .ensures) (c .if1 .left)
 
 returns-2 : tie.Need-returns-2
 unfolding valuesIn
 returns-2 c =
-    let a = c .before .before .before .before .before .before .before .args in
-    let f = form-1 (a .v) (omega arith) (omega arith) in
-    rw (all-written (now (a .out)) (a .at) (bytesOf (a .v)) (omega (arith, room (c .before .before .before .before), length-bytes (a .v), sized (a .v) 1 f)), length-bytes (a .v), sized (a .v) 1 f, formed (a .v) 1 f, c .before .before .put-two .ensures) refl
+    let e = c .before .before .before .before in
+    let a = e .before .before .before .args in
+    rw (filled (now (a .out)) (a .at) (bytesOf (a .v)) 2 (long (e .before)) (e .before .has-room .ensures) (e .if1 .left), formed (a .v) 1 (form (e .before)), c .before .before .put-two .ensures) refl
 
 pub write-two-spec : {M : Type 1} → statement M
 write-two-spec =

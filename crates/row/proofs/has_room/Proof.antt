@@ -1,4 +1,4 @@
--- `row::fits` meets its contract: a row has at most 8 bytes for each number, and where that may be too much it is sized.
+-- `row::has_room` meets its contract: a row has at most 8 bytes for each number, and where that may be too much it is sized.
 -- Assumes nothing.
 use borrow.Author.Needs.{needs}
 use borrow.Author.Tests.{le-leb}
@@ -9,8 +9,8 @@ use lib.Dec.{leb}
 use Prim.Native.Nat.{ℕ}
 use Rattle.row.specs.Row.{sizeAll}
 use Rattle.row.proofs.Back.{size-most}
-use Rattle.row.proofs.fits.Statement.{statement}
-use Rattle.row.proofs.fits.Tie as tie
+use Rattle.row.proofs.has_room.Statement.{statement}
+use Rattle.row.proofs.has_room.Tie as tie
 
 returns : tie.Need-returns
 returns c =
@@ -20,8 +20,8 @@ returns c =
 returns-2 : tie.Need-returns-2
 returns-2 c = ap (λ (n : ℕ). leb n (c .before .before .before .args .room)) (c .size .ensures)
 
-pub fits-spec : {M : Type 1} → statement M
-fits-spec =
+pub has-room-spec : {M : Type 1} → statement M
+has-room-spec =
     tie.close
     (tie.spec
     returns
