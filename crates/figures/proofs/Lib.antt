@@ -1,4 +1,5 @@
 pub mod Figures
 pub mod Faults
 pub mod Admitted
+pub mod ByKind
 pub mod Same

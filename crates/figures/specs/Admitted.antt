@@ -45,15 +45,19 @@ never = row false false false false
 abbrev pub answers : List ℕ → List ℕ
 answers s = map (λ kind. readingSays (frameAt s 0 kind) .number) kinds
 
+-- the rule, a row for each type
+abbrev pub rows : List (List Bool)
+rows = map (λ ty. map (λ kind. admitted kind ty) kinds) types
+
 pub record Admitted : Type 0 where
-  -- "PADDING, PING and CONNECTION_CLOSE 0x1c in all four kinds; ACK and CRYPTO in all but 0-RTT; PATH_RESPONSE in 1-RTT; all others in 0-RTT and 1-RTT. NEW_TOKEN and HANDSHAKE_DONE are never admitted at a server"
-  pub table : map (λ ty. map (λ kind. admitted kind ty) kinds) types
+  -- "PADDING, PING and CONNECTION_CLOSE 0x1c in all four kinds; ACK and CRYPTO in all but 0-RTT; PATH_RESPONSE and RETIRE_CONNECTION_ID in 1-RTT; all others in 0-RTT and 1-RTT. NEW_TOKEN and HANDSHAKE_DONE are never admitted at a server"
+  pub table : rows
       ≡ all ∷ all ∷ exceptEarly ∷ exceptEarly ∷ early ∷ early ∷ exceptEarly ∷ never ∷ (replicate 8 early
-      ++ (early ∷ early ∷ early ∷ early ∷ early ∷ early ∷ early ∷ early ∷ early ∷ early ∷ early ∷ late ∷ all ∷ early ∷ never ∷ []))
+      ++ (early ∷ early ∷ early ∷ early ∷ early ∷ early ∷ early ∷ early ∷ early ∷ late ∷ early ∷ late ∷ all ∷ early ∷ never ∷ []))
   -- the same on payloads that are a type and nothing else: 10 where it is not admitted, "admitted [..] (10), fields (7)"; PADDING and PING have no fields
   pub alone : map (λ ty. answers (ty ∷ [])) types
-      ≡ row 0 0 0 0 ∷ row 0 0 0 0 ∷ row 7 7 10 7 ∷ row 7 7 10 7 ∷ row 10 10 7 7 ∷ row 10 10 7 7 ∷ row 7 7 10 7 ∷ row 10 10 10 10 ∷ (replicate 18 (row 10 10 7 7)
-      ++ (row 10 10 7 7 ∷ row 10 10 10 7 ∷ row 7 7 7 7 ∷ row 10 10 7 7 ∷ row 10 10 10 10 ∷ []))
+      ≡ row 0 0 0 0 ∷ row 0 0 0 0 ∷ row 7 7 10 7 ∷ row 7 7 10 7 ∷ row 10 10 7 7 ∷ row 10 10 7 7 ∷ row 7 7 10 7 ∷ row 10 10 10 10 ∷ (replicate 17 (row 10 10 7 7)
+      ++ (row 10 10 10 7 ∷ row 10 10 7 7 ∷ row 10 10 10 7 ∷ row 7 7 7 7 ∷ row 10 10 7 7 ∷ row 10 10 10 10 ∷ []))
   -- "type readable (7)": no byte, a type cut short, a place outside; "type 0 if none was read"
   pub unreadable : map (λ s. frameAt s 0 OneRtt) ([] ∷ (0x40 ∷ []) ∷ (0xc0 ∷ 0 ∷ 0 ∷ 0 ∷ 0 ∷ 0 ∷ 0 ∷ []) ∷ []) ≡ Refused FrameEncoding 0 ∷ Refused FrameEncoding 0 ∷ Refused FrameEncoding 0 ∷ []
   pub outside : frameAt (1 ∷ []) 5 OneRtt ≡ Refused FrameEncoding 0

@@ -1,3 +1,4 @@
 pub mod Figures
 pub mod Faults
 pub mod Admitted
+pub mod ByKind

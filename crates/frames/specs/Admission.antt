@@ -1,4 +1,4 @@
--- Which frames a packet may carry to a server, RFC 9000 Table 3 in the words of docs/RULES.md, "Admission": the one place where admission is ruled.
+-- Which frames a packet may carry to a server, RFC 9000 Table 3 and 12.5 in the words of docs/RULES.md, "Admission": the one place where admission is ruled.
 use Prim.Native.Nat.{ℕ}
 use mathlib.Core.Bool.{Bool, true, false}
 use lib.Dec.{eqb}
@@ -38,8 +38,9 @@ admitted kind ty =
     ∣ eqb ty 0x02 ⇒ exceptEarly kind
     ∣ eqb ty 0x03 ⇒ exceptEarly kind
     ∣ eqb ty 0x06 ⇒ exceptEarly kind
-    -- PATH_RESPONSE in 1-RTT
+    -- PATH_RESPONSE and RETIRE_CONNECTION_ID in 1-RTT
     ∣ eqb ty 0x1b ⇒ onlyOneRtt kind
+    ∣ eqb ty 0x19 ⇒ onlyOneRtt kind
     -- NEW_TOKEN and HANDSHAKE_DONE are never admitted at a server
     ∣ eqb ty 0x07 ⇒ false
     ∣ eqb ty 0x1e ⇒ false

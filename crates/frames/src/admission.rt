@@ -1,4 +1,4 @@
-// Which frames a packet of a kind may carry to a server (RFC 9000, 12.4, Table 3).
+// Which frames a packet of a kind may carry to a server (RFC 9000, Table 3 and 12.5).
 ghost use mathlib.Core.Path.{_≡_};
 ghost use Rattle.frames.specs.Admission.{exceptEarly, onlyOneRtt, earlyOrOneRtt, admitted};
 use kinds::Kind;
@@ -47,6 +47,7 @@ pub fn admits(kind: Kind, ty: u64) -> bool
         types::ACK_ECN => except_early(kind),
         types::CRYPTO => except_early(kind),
         types::NEW_TOKEN => false,
+        types::RETIRE_CONNECTION_ID => only_one_rtt(kind),
         types::PATH_RESPONSE => only_one_rtt(kind),
         types::CONNECTION_CLOSE => true,
         types::HANDSHAKE_DONE => false,

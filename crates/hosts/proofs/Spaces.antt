@@ -51,6 +51,9 @@ spaces = record {
   carried-ack = refl;
   carried-max-data = refl;
   carried-path-response = refl;
+  carried-retire = refl;
+  carried-retire-torn = refl;
+  carried-identity = refl;
   acknowledged = refl;
   not-handed-out = refl;
 }

@@ -14,6 +14,7 @@ use Rattle.demands.specs.Hosts.{answered, recordsAfter}
 use Rattle.demands.specs.Hosts.Act.{TakePacket}
 use Rattle.hosts.specs.Unfit.{wholeHost, plain, firstMarked, held}
 use Rattle.hosts.specs.Order.{AllGet, table, live}
+use Rattle.hosts.specs.Stops.{identity}
 
 abbrev pub records : Record → Record → Record → Records
 records initial handshake application = record { initial = initial; handshake = handshake; application = application }
@@ -92,11 +93,14 @@ pub record Spaces : Type 0 where
   pub from-none : map (λ (t : ℕ). numberIn (records one one noneOf) 0x40 (t ∷ 1 ∷ [])) (129 ∷ 255 ∷ []) ≡ 129 ∷ 255 ∷ []
   -- "The low two bits of the plain first byte, plus one, give the length of the number"
   pub lengths : map (λ (p : ℕ × List ℕ). numberIn held (p .0) (p .1)) ((0xc0, 2 ∷ 1 ∷ []) ∷ (0xd1, 0x20 ∷ 2 ∷ 1 ∷ []) ∷ (0xe2, 0 ∷ 0x20 ∷ 2 ∷ 1 ∷ []) ∷ (0xc3, 0 ∷ 0 ∷ 0x20 ∷ 2 ∷ 1 ∷ []) ∷ []) ≡ replicate 4 8194
-  -- "admitted in this packet kind": the frames of a packet are those of its kind. PING, ACK, MAX_DATA, PATH_RESPONSE
+  -- "admitted in this packet kind": the frames of a packet are those of its kind. PING, ACK, MAX_DATA, PATH_RESPONSE; RETIRE_CONNECTION_ID whole and cut short; NEW_CONNECTION_ID
   pub carried-ping : carried (0x01 ∷ []) ≡ 0 ∷ 0 ∷ 0 ∷ 0 ∷ []
   pub carried-ack : carried (0x02 ∷ 0 ∷ 0 ∷ 0 ∷ 0 ∷ []) ≡ 0 ∷ 10 ∷ 0 ∷ 0 ∷ []
   pub carried-max-data : carried (0x10 ∷ 5 ∷ []) ≡ 10 ∷ 0 ∷ 10 ∷ 0 ∷ []
   pub carried-path-response : carried (0x1b ∷ replicate 8 5) ≡ 10 ∷ 10 ∷ 10 ∷ 0 ∷ []
+  pub carried-retire : carried (0x19 ∷ 5 ∷ []) ≡ 10 ∷ 10 ∷ 10 ∷ 0 ∷ []
+  pub carried-retire-torn : carried (0x19 ∷ []) ≡ 10 ∷ 10 ∷ 10 ∷ 7 ∷ []
+  pub carried-identity : carried identity ≡ 10 ∷ 0 ∷ 10 ∷ 0 ∷ []
   -- "An ACK of a number not yet handed out in its space is 10"
   pub acknowledged : AllGet sent held 0 ((0xc0, acknowledging 0) ∷ (0xe0, acknowledging 1) ∷ (0x40, acknowledging 2) ∷ [])
   pub not-handed-out : AllGet sent held 10 ((0xc0, acknowledging 1) ∷ (0xe0, acknowledging 2) ∷ (0x40, acknowledging 3) ∷ [])

@@ -1,7 +1,7 @@
 -- docs/RULES.md, "Taking a packet": "The walk stops at the first frame that is refused": a packet refused in its middle, by each kind of refusal, one that ends with CONNECTION_CLOSE and one of which all pass; each with all that it leaves.
 use Prim.Native.Nat.{ℕ}
 use mathlib.Core.Path.{_≡_}
-use mathlib.Core.List.{List, [], _∷_, _++_}
+use mathlib.Core.List.{List, [], _∷_, _++_, map}
 use lib.ListN.{replicate, set}
 use Rattle.answers.specs.declared.Answer.{Answer}
 use Rattle.answers.specs.declared.Answer.the-variants.{Accepted, FlowControl, StreamLimit, StreamState, FinalSize, FrameEncoding, ProtocolViolation}
@@ -34,6 +34,14 @@ heard mark = wholeHost plain (2 ∷ 2 ∷ 64 ∷ 1 ∷ []) 21 (1 ∷ 1 ∷ 1 ∷
 abbrev pub goingOn : List ℕ → Outcome
 goingOn s = outcome live held (0x40, before ++ s)
 
+-- .. in 0-RTT
+abbrev pub goingOnEarly : List ℕ → Outcome
+goingOnEarly s = outcome live held (0xd0, before ++ s)
+
+-- NEW_CONNECTION_ID: sequence number 3, an ID of one byte
+abbrev pub identity : List ℕ
+identity = 0x18 ∷ 3 ∷ 0 ∷ 1 ∷ replicate 17 5
+
 -- .. which are refused: "frames before it stay applied, it changes nothing itself, the connection closes with its code and type, and the number is not recorded"
 abbrev pub refusedIn : Answer → ℕ → Outcome
 refusedIn answer ty = ending answer 8 (heard (Code answer ty)) held
@@ -56,6 +64,10 @@ pub record Stops : Type 0 where
   pub refused-padded : goingOn (0x40 ∷ 0x01 ∷ []) ≡ refusedIn ProtocolViolation 0x01
   pub refused-unknown : goingOn (0x1f ∷ []) ≡ refusedIn FrameEncoding 0x1f
   pub refused-not-admitted : goingOn (0x1e ∷ []) ≡ refusedIn ProtocolViolation 0x1e
+  -- .. RETIRE_CONNECTION_ID in 0-RTT, whole and cut short; in 1-RTT it passes, and NEW_CONNECTION_ID does in 0-RTT
+  pub refused-early : map goingOnEarly ((0x19 ∷ 5 ∷ 0x01 ∷ []) ∷ (0x19 ∷ 0x41 ∷ []) ∷ (0x19 ∷ []) ∷ []) ≡ replicate 3 (refusedIn ProtocolViolation 0x19)
+  pub passed-late : goingOn (0x19 ∷ 5 ∷ []) ≡ ending Accepted 10 (heard Open) recordedNext
+  pub passed-early : goingOnEarly identity ≡ ending Accepted 29 (heard Open) recordedNext
   pub refused-field : goingOn (0x0a ∷ 4 ∷ 2 ∷ 0x61 ∷ []) ≡ refusedIn FrameEncoding 0x0a
   -- "CONNECTION_CLOSE is accepted, ends the walk, records the number and closes "by peer""; the place is its own, and what stands behind it is not looked at
   pub closed-by-peer : goingOn (0x1c ∷ 3 ∷ 0x1f ∷ 0 ∷ 0x40 ∷ []) ≡ ending Accepted 8 (heard ByPeer) recordedNext
