@@ -16,6 +16,7 @@ use Rattle.frames.specs.declared.Reading.{Reading}
 use Rattle.frames.specs.declared.Reading.the-variants.{Got, Refused}
 use Rattle.frames.specs.Admission.{admitted}
 use Rattle.frames.specs.Reading.{frameAt, anyFrameAt}
+use Rattle.figures.specs.Faults.{identity}
 use Rattle.figures.specs.Admitted.{kinds, types, row, all, exceptEarly, early, late, never, answers, rows}
 
 -- the column Pkts of Table 3: IH01, IH_1, __01, ___1; the "ih" of CONNECTION_CLOSE is 0x1c alone
@@ -48,8 +49,8 @@ abbrev pub on : List ℕ → List Bool
 on l = map (isOn l) types
 
 -- a whole NEW_CONNECTION_ID: sequence number 3, an ID of one byte
-abbrev pub identity : List ℕ
-identity = 0x18 ∷ 3 ∷ 0 ∷ 1 ∷ replicate 17 5
+abbrev pub whole : List ℕ
+whole = identity 3 0 1 17
 
 -- what is read in each kind of packet
 abbrev pub readings : List ℕ → List Reading
@@ -74,8 +75,8 @@ pub record ByKind : Type 0 where
   pub retire-torn : map readings ((0x19 ∷ 0x41 ∷ []) ∷ (0x19 ∷ []) ∷ []) ≡ replicate 2 (row (refused 0x19) (refused 0x19) (refused 0x19) (Refused FrameEncoding 0x19))
   pub retire-padded : readings (0x40 ∷ 0x19 ∷ 5 ∷ []) ≡ replicate 4 (refused 0x19)
   -- its neighbour NEW_CONNECTION_ID whole, cut short in its fields, and with none; PATH_CHALLENGE, its neighbour above
-  pub identity-whole : readings identity ≡ row (refused 0x18) (refused 0x18) (Got (NewConnectionId 3 0 4 1 5) 0x18 21) (Got (NewConnectionId 3 0 4 1 5) 0x18 21)
-  pub neighbours : map answers (identity ∷ (0x18 ∷ 3 ∷ []) ∷ (0x18 ∷ []) ∷ (0x1a ∷ replicate 8 5) ∷ (0x1a ∷ replicate 7 5) ∷ []) ≡ row 10 10 0 0 ∷ row 10 10 7 7 ∷ row 10 10 7 7 ∷ row 10 10 0 0 ∷ row 10 10 7 7 ∷ []
+  pub identity-whole : readings whole ≡ row (refused 0x18) (refused 0x18) (Got (NewConnectionId 3 0 4 1 5) 0x18 21) (Got (NewConnectionId 3 0 4 1 5) 0x18 21)
+  pub neighbours : map answers (whole ∷ (0x18 ∷ 3 ∷ []) ∷ (0x18 ∷ []) ∷ (0x1a ∷ replicate 8 5) ∷ (0x1a ∷ replicate 7 5) ∷ []) ≡ row 10 10 0 0 ∷ row 10 10 7 7 ∷ row 10 10 7 7 ∷ row 10 10 0 0 ∷ row 10 10 7 7 ∷ []
   -- at any place of any payload: 10 in 0-RTT whatever stands behind the type; in 1-RTT it is read as it stands
   pub retire-early : (s : List ℕ) (at : ℕ) → numberAt s at ≡ Is 0x19 (at + 1) → frameAt s at ZeroRtt ≡ refused 0x19
   pub retire-late : (s : List ℕ) (at : ℕ) → numberAt s at ≡ Is 0x19 (at + 1) → frameAt s at OneRtt ≡ anyFrameAt s at
