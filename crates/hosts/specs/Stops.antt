@@ -64,11 +64,11 @@ pub record Stops : Type 0 where
   pub refused-padded : goingOn (0x40 ∷ 0x01 ∷ []) ≡ refusedIn ProtocolViolation 0x01
   pub refused-unknown : goingOn (0x1f ∷ []) ≡ refusedIn FrameEncoding 0x1f
   pub refused-not-admitted : goingOn (0x1e ∷ []) ≡ refusedIn ProtocolViolation 0x1e
+  pub refused-field : goingOn (0x0a ∷ 4 ∷ 2 ∷ 0x61 ∷ []) ≡ refusedIn FrameEncoding 0x0a
   -- .. RETIRE_CONNECTION_ID in 0-RTT, whole and cut short; in 1-RTT it passes, and NEW_CONNECTION_ID does in 0-RTT
   pub refused-early : map goingOnEarly ((0x19 ∷ 5 ∷ 0x01 ∷ []) ∷ (0x19 ∷ 0x41 ∷ []) ∷ (0x19 ∷ []) ∷ []) ≡ replicate 3 (refusedIn ProtocolViolation 0x19)
   pub passed-late : goingOn (0x19 ∷ 5 ∷ []) ≡ ending Accepted 10 (heard Open) recordedNext
   pub passed-early : goingOnEarly identity ≡ ending Accepted 29 (heard Open) recordedNext
-  pub refused-field : goingOn (0x0a ∷ 4 ∷ 2 ∷ 0x61 ∷ []) ≡ refusedIn FrameEncoding 0x0a
   -- "CONNECTION_CLOSE is accepted, ends the walk, records the number and closes "by peer""; the place is its own, and what stands behind it is not looked at
   pub closed-by-peer : goingOn (0x1c ∷ 3 ∷ 0x1f ∷ 0 ∷ 0x40 ∷ []) ≡ ending Accepted 8 (heard ByPeer) recordedNext
   pub closed-by-application : goingOn (0x1d ∷ 3 ∷ 1 ∷ 0x61 ∷ 0x1f ∷ []) .took .conn ≡ heard ByPeer .conn
