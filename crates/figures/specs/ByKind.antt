@@ -40,6 +40,7 @@ fromServers = 0x07 ∷ 0x1e ∷ []
 abbrev pub column : Kind → List Bool
 column kind = map (admitted kind) types
 
+-- whether a type is on a list
 unfoldable pub isOn : List ℕ → ℕ → Bool
 isOn [] ty = false
 isOn (t ∷ l) ty = eqb t ty ⇒ true ∣ isOn l ty
@@ -74,9 +75,9 @@ pub record ByKind : Type 0 where
   pub retire-whole : readings (0x19 ∷ 5 ∷ []) ≡ row (refused 0x19) (refused 0x19) (refused 0x19) (Got (RetireConnectionId 5) 0x19 2)
   pub retire-torn : map readings ((0x19 ∷ 0x41 ∷ []) ∷ (0x19 ∷ []) ∷ []) ≡ replicate 2 (row (refused 0x19) (refused 0x19) (refused 0x19) (Refused FrameEncoding 0x19))
   pub retire-padded : readings (0x40 ∷ 0x19 ∷ 5 ∷ []) ≡ replicate 4 (refused 0x19)
-  -- its neighbour NEW_CONNECTION_ID whole, cut short in its fields, and with none; PATH_CHALLENGE, its neighbour above
+  -- its neighbour NEW_CONNECTION_ID whole; cut short in its fields, and with none; PATH_CHALLENGE, its neighbour above, whole and cut short
   pub identity-whole : readings whole ≡ row (refused 0x18) (refused 0x18) (Got (NewConnectionId 3 0 4 1 5) 0x18 21) (Got (NewConnectionId 3 0 4 1 5) 0x18 21)
-  pub neighbours : map answers (whole ∷ (0x18 ∷ 3 ∷ []) ∷ (0x18 ∷ []) ∷ (0x1a ∷ replicate 8 5) ∷ (0x1a ∷ replicate 7 5) ∷ []) ≡ row 10 10 0 0 ∷ row 10 10 7 7 ∷ row 10 10 7 7 ∷ row 10 10 0 0 ∷ row 10 10 7 7 ∷ []
+  pub neighbours : map answers ((0x18 ∷ 3 ∷ []) ∷ (0x18 ∷ []) ∷ (0x1a ∷ replicate 8 5) ∷ (0x1a ∷ replicate 7 5) ∷ []) ≡ row 10 10 7 7 ∷ row 10 10 7 7 ∷ row 10 10 0 0 ∷ row 10 10 7 7 ∷ []
   -- at any place of any payload: 10 in 0-RTT whatever stands behind the type; in 1-RTT it is read as it stands
   pub retire-early : (s : List ℕ) (at : ℕ) → numberAt s at ≡ Is 0x19 (at + 1) → frameAt s at ZeroRtt ≡ refused 0x19
   pub retire-late : (s : List ℕ) (at : ℕ) → numberAt s at ≡ Is 0x19 (at + 1) → frameAt s at OneRtt ≡ anyFrameAt s at
