@@ -10,6 +10,7 @@ use lib.ListN.{getD, set, length, length-set, List·getD-eq-default}
 use lib.Seq.{getD-set-same, getD-set-other}
 use lib.Dec.{ltb, leb, eqb}
 use borrow.Author.Tests.{lt-ltb, eq-eqb, ne-eqb, leb-false, not-false, not-true}
+use Rattle.kinds.specs.declared.Role.{Role}
 use Rattle.answers.specs.Choice.{_⇒_∣_}
 use Rattle.answers.specs.declared.Answer.the-variants.{Accepted, NotServed, AboveCeiling}
 use Rattle.answers.proofs.Accepts.{passed}
@@ -28,7 +29,7 @@ use Rattle.opening.specs.Opening.{openedConn}
 use Rattle.rules.specs.declared.View.the-variants.{Ends, Blocks, ForSender, Acks, Closes, Nothing}
 use Rattle.verdicts.specs.Verdict.{verdictOf, connHeard, entryHeard}
 use Rattle.calls.specs.declared.Call.the-variants.{RaiseCredit, RaiseStream, RaiseCount, OpenNext}
-use Rattle.calls.specs.Calls as calls
+use Rattle.replies.specs.Replies as replies
 use Rattle.calls.specs.Calls.{peersType, oursType, replyOf}
 use Rattle.accounts.specs.History.{Event, looksAt, ruledOf, connAfter, entryAfter, after, opened, stateOf, AllAccepted}
 use Rattle.accounts.specs.History.Event.{Got, Did, Gave}
@@ -57,7 +58,7 @@ open-to c id n half four l = set-choice (c .opened) (id % 4) half (max (openedOf
     go (no x) = rw (ne-eqb (id % 4) half x)
 
 -- the stream that we open next is the one above those that are open
-pub next-is : (c : Conn) (ty : ℕ) → openedOf c (ty % 4) < 64 → calls.nextOf c ty ≡ 4 * openedOf c (ty % 4) + ty % 4
+pub next-is : (c : Conn) (ty : ℕ) → openedOf c (ty % 4) < 64 → replies.nextOf c ty ≡ 4 * openedOf c (ty % 4) + ty % 4
 unfolding idOf
 next-is c ty l = rw (lt-ltb (ty % 4) 4 (omega arith), lt-ltb (openedOf c (ty % 4)) (2 ^ 60) (omega arith)) refl
 
@@ -74,18 +75,18 @@ opens-next c e ty h =
     let p = and-eq-true-iff (ltb ty 4) (not (peers (ty % 4))) .0 (not-false _ (a .0)) in
     record { ours = not-true _ (p .1); room = leb-false mostStreams (openedOf c (ty % 4)) (b .0) }
 
-open-next : (c : Conn) (ty half : ℕ) → length (c .opened) ≡ 4 → half < 4 → Opens c ty → openedOf (openTo c (calls.nextOf c ty) (c .total)) half ≡ (eqb (ty % 4) half ⇒ openedOf c half + 1 ∣ openedOf c half)
-open-next c ty half four l w = open-to c (calls.nextOf c ty) (c .total) half four l ∙ go (ℕ-discrete (ty % 4) half)
+open-next : (c : Conn) (ty half : ℕ) → length (c .opened) ≡ 4 → half < 4 → Opens c ty → openedOf (openTo c (replies.nextOf c ty) (c .total)) half ≡ (eqb (ty % 4) half ⇒ openedOf c half + 1 ∣ openedOf c half)
+open-next c ty half four l w = open-to c (replies.nextOf c ty) (c .total) half four l ∙ go (ℕ-discrete (ty % 4) half)
   where
-    e : calls.nextOf c ty ≡ 4 * openedOf c (ty % 4) + ty % 4
+    e : replies.nextOf c ty ≡ 4 * openedOf c (ty % 4) + ty % 4
     e = next-is c ty (w .room)
 
-    m : calls.nextOf c ty % 4 ≡ ty % 4
+    m : replies.nextOf c ty % 4 ≡ ty % 4
     m = omega (arith, e)
 
-    go : Dec (ty % 4 ≡ half) → upTo (calls.nextOf c ty) half (openedOf c half) ≡ (eqb (ty % 4) half ⇒ openedOf c half + 1 ∣ openedOf c half)
-    go (yes x) = rw (eq-eqb (calls.nextOf c ty % 4) half (m ∙ x), eq-eqb (ty % 4) half x) (omega (arith, e, ap (openedOf c) x))
-    go (no x) = rw (ne-eqb (calls.nextOf c ty % 4) half (λ y. x (sym m ∙ y)), ne-eqb (ty % 4) half x)
+    go : Dec (ty % 4 ≡ half) → upTo (replies.nextOf c ty) half (openedOf c half) ≡ (eqb (ty % 4) half ⇒ openedOf c half + 1 ∣ openedOf c half)
+    go (yes x) = rw (eq-eqb (replies.nextOf c ty % 4) half (m ∙ x), eq-eqb (ty % 4) half x) (omega (arith, e, ap (openedOf c) x))
+    go (no x) = rw (ne-eqb (replies.nextOf c ty % 4) half (λ y. x (sym m ∙ y)), ne-eqb (ty % 4) half x)
 
 opened-step : (c : Conn) (e : Entry) (ev : Event) (half : ℕ) → length (c .opened) ≡ 4 → half < 4 → ruledOf c e ev ≡ Accepted → openedOf (connAfter c e ev) half ≡ opens ev half (openedOf c half)
 unfolding ruledOf connAfter connHeard
@@ -135,11 +136,11 @@ raises-peers : (c : Conn) (e : Entry) (ty new : ℕ) → replyOf c e (RaiseCount
 unfolding replyOf
 raises-peers c e ty new h = and-eq-true-iff (ltb ty 4) (peers (ty % 4)) .0 (not-false _ (passed (not (peersType ty)) NotServed _ refl h .0)) .1
 
-count-next : (c : Conn) (ty half : ℕ) → length (c .opened) ≡ 4 → half < 4 → Opens c ty → countOf (openTo c (calls.nextOf c ty) (c .total)) half ≡ (eqb (ty % 4) half ⇒ countOf c half + 1 ∣ countOf c half)
+count-next : (c : Conn) (ty half : ℕ) → length (c .opened) ≡ 4 → half < 4 → Opens c ty → countOf (openTo c (replies.nextOf c ty) (c .total)) half ≡ (eqb (ty % 4) half ⇒ countOf c half + 1 ∣ countOf c half)
 count-next c ty half four l w = go (peers half) refl (ℕ-discrete (ty % 4) half)
   where
     d : Conn
-    d = openTo c (calls.nextOf c ty) (c .total)
+    d = openTo c (replies.nextOf c ty) (c .total)
 
     go : (b : Bool) → peers half ≡ b → Dec (ty % 4 ≡ half) → countOf d half ≡ (eqb (ty % 4) half ⇒ countOf c half + 1 ∣ countOf c half)
     go true p (yes x) = let u = ap peers x in let v = w .ours in impossible cc
@@ -259,28 +260,28 @@ pub record Said (o : Limits) (h : List Event) (c : Conn) : Type 0 where
   pub two : length (c .limits .counts) ≡ 2
   pub three : length (c .next) ≡ 3
 
-first-counts : (o : Limits) (half : ℕ) → half < 4 → countOf (openedConn o Open) half ≡ countBy o [] half
+first-counts : (role : Role) (o : Limits) (half : ℕ) → half < 4 → countOf (openedConn role o Open) half ≡ countBy o [] half
 unfolding countOf countBy
-first-counts o zero l = refl
-first-counts o (suc zero) l = refl
-first-counts o (suc (suc zero)) l = refl
-first-counts o (suc (suc (suc zero))) l = refl
-first-counts o (suc (suc (suc (suc half)))) l = absurd (omega arith)
+first-counts role o zero l = refl
+first-counts role o (suc zero) l = refl
+first-counts role o (suc (suc zero)) l = refl
+first-counts role o (suc (suc (suc zero))) l = refl
+first-counts role o (suc (suc (suc (suc half)))) l = absurd (omega arith)
 
-first-next : (o : Limits) (space : Space) → nextOf (openedConn o Open) space ≡ 0
-first-next o Initial = refl
-first-next o Handshake = refl
-first-next o Application = refl
+first-next : (role : Role) (o : Limits) (space : Space) → nextOf (openedConn role o Open) space ≡ 0
+first-next role o Initial = refl
+first-next role o Handshake = refl
+first-next role o Application = refl
 
-pub said : (o : Limits) (h : List Event) → length (o .counts) ≡ 2 → AllAccepted o h → Said o h (stateOf o h .conn)
+pub said : (role : Role) (o : Limits) (h : List Event) → length (o .counts) ≡ 2 → AllAccepted role o h → Said o h (stateOf role o h .conn)
 unfolding stateOf AllAccepted opened after creditBy openBy nextBy markBy countBy
-said o [] two a = record { credit = refl; initial = refl; count = first-counts o; opened-is = λ half l. none-open o half; next = first-next o; mark = refl; two = two; three = refl }
-said o (ev ∷ h) two a =
-    let c = stateOf o h .conn in
-    let e = entryOf (stateOf o h .table) (looksAt ev) in
-    let r = passes (stateOf o h) ev (a .1) in
-    let four = always o h (a .0) .conn .four in
-    let w = said o h two (a .0) in
+said role o [] two a = record { credit = refl; initial = refl; count = first-counts role o; opened-is = λ half l. none-open role o half; next = first-next role o; mark = refl; two = two; three = refl }
+said role o (ev ∷ h) two a =
+    let c = stateOf role o h .conn in
+    let e = entryOf (stateOf role o h .table) (looksAt ev) in
+    let r = passes (stateOf role o h) ev (a .1) in
+    let four = always role o h (a .0) .conn .four in
+    let w = said role o h two (a .0) in
     let m = moves c e ev in
     record {
       credit = m .credit ∙ ap (credits ev) (w .credit);
@@ -294,15 +295,15 @@ said o (ev ∷ h) two a =
     }
 
 -- a stream's credit is what the history says: in its entry, and 0 where it has none
-pub credit-said : (o : Limits) (h : List Event) (id : ℕ) → AllAccepted o h → Has id → entryOf (stateOf o h .table) id .credit ≡ streamCreditBy o h id
+pub credit-said : (role : Role) (o : Limits) (h : List Event) (id : ℕ) → AllAccepted role o h → Has id → entryOf (stateOf role o h .table) id .credit ≡ streamCreditBy o h id
 unfolding stateOf AllAccepted after streamCreditBy
-credit-said o [] id a b =
+credit-said role o [] id a b =
     let p = place-is id b in
     let q : placeOf id / 64 ≡ id % 4 = omega arith in
-    ap (λ (x : Entry). x .credit) (table-at o (placeOf id) (omega arith)) ∙ rw (has-listed id b) (ap (initialOf o) q)
-credit-said o (ev ∷ h) id a b = stream-step (stateOf o h .conn) (stateOf o h .table) ev id (always o h (a .0)) b (passes (stateOf o h) ev (a .1)) ∙ ap (lifts ev id) (credit-said o h id (a .0) b)
+    ap (λ (x : Entry). x .credit) (table-at role o (placeOf id) (omega arith)) ∙ rw (has-listed id b) (ap (initialOf o) q)
+credit-said role o (ev ∷ h) id a b = stream-step (stateOf role o h .conn) (stateOf role o h .table) ev id (always role o h (a .0)) b (passes (stateOf role o h) ev (a .1)) ∙ ap (lifts ev id) (credit-said role o h id (a .0) b)
 
-pub credit-none : (o : Limits) (h : List Event) (id : ℕ) → AllAccepted o h → (Has id → ⊥) → streamCreditBy o h id ≡ 0
+pub credit-none : (role : Role) (o : Limits) (h : List Event) (id : ℕ) → AllAccepted role o h → (Has id → ⊥) → streamCreditBy o h id ≡ 0
 unfolding AllAccepted streamCreditBy
-credit-none o [] id a b = holds (λ (n : ℕ). n ≡ 0) (listed id) _ _ (λ e. absurd (b (listed-has id e))) (λ e. refl)
-credit-none o (ev ∷ h) id a b = ap (lifts ev id) (credit-none o h id (a .0) b) ∙ lifts-none (stateOf o h .conn) (entryOf (stateOf o h .table) (looksAt ev)) ev id (always o h (a .0) .conn) b (passes (stateOf o h) ev (a .1))
+credit-none role o [] id a b = holds (λ (n : ℕ). n ≡ 0) (listed id) _ _ (λ e. absurd (b (listed-has id e))) (λ e. refl)
+credit-none role o (ev ∷ h) id a b = ap (lifts ev id) (credit-none role o h id (a .0) b) ∙ lifts-none (stateOf role o h .conn) (entryOf (stateOf role o h .table) (looksAt ev)) ev id (always role o h (a .0) .conn) b (passes (stateOf role o h) ev (a .1))

@@ -9,7 +9,8 @@ use Rattle.streams.specs.Conn.{limitsFit}
 use Rattle.views.specs.View.{endOf}
 use Rattle.rules.specs.Rules.{rule1, rule2, blockedOf, forSenderOf}
 use Rattle.verdicts.specs.Verdict.{verdictOf, connHeard}
-use Rattle.calls.specs.Calls.{raiseOf, replyOf, settledOf, ruledOf, repliedOf}
+use Rattle.calls.specs.Calls.{raiseOf, replyOf}
+use Rattle.replies.specs.Replies.{settledOf, ruledOf, repliedOf}
 use Rattle.limits.specs.Fits.{openFit, connFits, summedOf, concludedOf}
 use Rattle.entries.specs.Fitting.{isFresh, entryFitsAs}
 use Rattle.accounts.specs.Borders.{Borders}

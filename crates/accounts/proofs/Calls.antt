@@ -4,7 +4,8 @@ use mathlib.Core.Path.{refl}
 use Rattle.halves.specs.Stream.{idOf}
 use Rattle.entries.specs.Entry.{finalOf}
 use Rattle.streams.specs.Conn.{countOf, handedOutOf}
-use Rattle.calls.specs.Calls.{raiseOf, replyOf, settledOf, ruledOf, repliedOf}
+use Rattle.calls.specs.Calls.{raiseOf, replyOf}
+use Rattle.replies.specs.Replies.{settledOf, ruledOf, repliedOf}
 use Rattle.accounts.specs.Calls.{Calls}
 
 pub calls : Calls

@@ -10,6 +10,7 @@ use native.Mathlib.Decide.{ℕ-discrete, decLe}
 use lib.Dec.{ltb, eqb}
 use lib.ListN.{length}
 use borrow.Author.Tests.{lt-ltb, le-ltb, eq-eqb, ne-eqb, ltb-true}
+use Rattle.kinds.specs.declared.Role.{Role}
 use Rattle.answers.specs.Choice.{_⇒_∣_}
 use Rattle.answers.specs.declared.Answer.{Answer}
 use Rattle.answers.specs.declared.Answer.the-variants.{Accepted, FlowControl, StreamLimit, StreamState, FinalSize}
@@ -44,25 +45,25 @@ total-ends : (c : Conn) (t : List Entry) → Fits c t → c .total ≡ sumTo 256
 unfolding endAt
 total-ends c t f = f .sum ∙ sum-streams (λ i. entryAt t i .end)
 
-end-furthest : (o : Limits) (h : List Event) (id : ℕ) → AllAccepted o h → id < 256 → endAt (stateOf o h .table) id ≡ furthest h id
+end-furthest : (role : Role) (o : Limits) (h : List Event) (id : ℕ) → AllAccepted role o h → id < 256 → endAt (stateOf role o h .table) id ≡ furthest h id
 unfolding endAt furthestOf
-end-furthest o h id a l = go (ℕ-discrete (id % 4) 3)
+end-furthest role o h id a l = go (ℕ-discrete (id % 4) 3)
   where
-    go : Dec (id % 4 ≡ 3) → (eqb (id % 4) 3 ⇒ 0 ∣ entryOf (stateOf o h .table) id .end) ≡ furthest h id
-    go (yes p) = rw (eq-eqb _ _ p, unowned o h id a (λ x. omega arith))
-    go (no p) = rw (ne-eqb _ _ p) (owned o h id a (omega arith, omega arith) .end-is)
+    go : Dec (id % 4 ≡ 3) → (eqb (id % 4) 3 ⇒ 0 ∣ entryOf (stateOf role o h .table) id .end) ≡ furthest h id
+    go (yes p) = rw (eq-eqb _ _ p, unowned role o h id a (λ x. omega arith))
+    go (no p) = rw (ne-eqb _ _ p) (owned role o h id a (omega arith, omega arith) .end-is)
 
-pub furthest-beyond : (o : Limits) (h : List Event) (id : ℕ) → AllAccepted o h → 256 ≤ id → furthest h id ≡ 0
+pub furthest-beyond : (role : Role) (o : Limits) (h : List Event) (id : ℕ) → AllAccepted role o h → 256 ≤ id → furthest h id ≡ 0
 unfolding furthestOf
-furthest-beyond o h id a l = rw (unowned o h id a (λ x. omega arith))
+furthest-beyond role o h id a l = rw (unowned role o h id a (λ x. omega arith))
 
 -- The counted total is the sum, over all streams, of the furthest end or final size that an accepted frame named.
 -- The streams with an ID below 256 are all that there are; so is each larger bound.
-pub total-is-sum : (o : Limits) (h : List Event) → AllAccepted o h → (n : ℕ) → 256 ≤ n → stateOf o h .conn .total ≡ sumTo n (furthest h)
-total-is-sum o h a n l =
-    total-ends (stateOf o h .conn) (stateOf o h .table) (always o h a)
-    ∙ sum-same 256 (endAt (stateOf o h .table)) (furthest h) (λ id m. end-furthest o h id a m)
-    ∙ sym (sum-more 256 (furthest h) (λ id m. furthest-beyond o h id a m) n l)
+pub total-is-sum : (role : Role) (o : Limits) (h : List Event) → AllAccepted role o h → (n : ℕ) → 256 ≤ n → stateOf role o h .conn .total ≡ sumTo n (furthest h)
+total-is-sum role o h a n l =
+    total-ends (stateOf role o h .conn) (stateOf role o h .table) (always role o h a)
+    ∙ sum-same 256 (endAt (stateOf role o h .table)) (furthest h) (λ id m. end-furthest role o h id a m)
+    ∙ sym (sum-more 256 (furthest h) (λ id m. furthest-beyond role o h id a m) n l)
 
 -- ---- room for all
 
@@ -147,73 +148,73 @@ last-rules limit total credit x end f = go (decLe end credit)
 
 -- ---- by the history: the credits and counts of a state are those that its history says
 
-credit-by : (o : Limits) (h : List Event) (id : ℕ) → AllAccepted o h → creditOf (stateOf o h) id ≡ streamCreditBy o h id
+credit-by : (role : Role) (o : Limits) (h : List Event) (id : ℕ) → AllAccepted role o h → creditOf (stateOf role o h) id ≡ streamCreditBy o h id
 unfolding creditOf
-credit-by o h id a = go (listed id) refl
+credit-by role o h id a = go (listed id) refl
   where
-    go : (b : Bool) → listed id ≡ b → (listed id ⇒ entryOf (stateOf o h .table) id .credit ∣ 0) ≡ streamCreditBy o h id
-    go true e = rw e (credit-said o h id a (listed-has id e))
-    go false e = rw e (sym (credit-none o h id a (λ b. not-both _ (has-listed id b) e)))
+    go : (b : Bool) → listed id ≡ b → (listed id ⇒ entryOf (stateOf role o h .table) id .credit ∣ 0) ≡ streamCreditBy o h id
+    go true e = rw e (credit-said role o h id a (listed-has id e))
+    go false e = rw e (sym (credit-none role o h id a (λ b. not-both _ (has-listed id b) e)))
 
-module _ (o : Limits) (h : List Event) (two : length (o .counts) ≡ 2) (a : AllAccepted o h) where
-  abbrev by : Said o h (stateOf o h .conn)
-  by = said o h two a
+module _ (role : Role) (o : Limits) (h : List Event) (two : length (o .counts) ≡ 2) (a : AllAccepted role o h) where
+  abbrev by : Said o h (stateOf role o h .conn)
+  by = said role o h two a
 
-  count-by : (id : ℕ) → countOf (stateOf o h .conn) (id % 4) ≡ countBy o h (id % 4)
+  count-by : (id : ℕ) → countOf (stateOf role o h .conn) (id % 4) ≡ countBy o h (id % 4)
   count-by id = by .count (id % 4) (omega arith)
 
-  may-by : (id : ℕ) → maySend (stateOf o h .conn) id ≡ maySendBy o h id
+  may-by : (id : ℕ) → maySend (stateOf role o h .conn) id ≡ maySendBy o h id
   unfolding maySend
   may-by id = ap (λ (n : ℕ). receives (id % 4) && ltb (id / 4) n) (count-by id)
 
-  granted-by : granted (stateOf o h) ≡ grantedBy o h
+  granted-by : granted (stateOf role o h) ≡ grantedBy o h
   unfolding granted grantedBy
-  granted-by = sum-same 256 (λ id. maySend (stateOf o h .conn) id ⇒ creditOf (stateOf o h) id ∣ 0) (λ id. maySendBy o h id ⇒ streamCreditBy o h id ∣ 0) (λ id l. λ j. may-by id j ⇒ credit-by o h id a j ∣ 0)
+  granted-by = sum-same 256 (λ id. maySend (stateOf role o h .conn) id ⇒ creditOf (stateOf role o h) id ∣ 0) (λ id. maySendBy o h id ⇒ streamCreditBy o h id ∣ 0) (λ id l. λ j. may-by id j ⇒ credit-by role o h id a j ∣ 0)
 
 -- a history of accepted events that left the connection open, and with enough credit for all
-pub record Running (o : Limits) (h : List Event) : Type 0 where
+pub record Running (role : Role) (o : Limits) (h : List Event) : Type 0 where
   pub two : length (o .counts) ≡ 2
-  pub accepted : AllAccepted o h
-  pub still-open : stateOf o h .conn .mark ≡ Open
+  pub accepted : AllAccepted role o h
+  pub still-open : stateOf role o h .conn .mark ≡ Open
   pub enough : grantedBy o h ≤ creditBy o h
 
-module _ (o : Limits) (h : List Event) (r : Running o h) where
-  enough-in : granted (stateOf o h) ≤ stateOf o h .conn .limits .credit
-  enough-in = omega (arith, r .enough, granted-by o h (r .two) (r .accepted), by o h (r .two) (r .accepted) .credit)
+module _ (role : Role) (o : Limits) (h : List Event) (r : Running role o h) where
+  enough-in : granted (stateOf role o h) ≤ stateOf role o h .conn .limits .credit
+  enough-in = omega (arith, r .enough, granted-by role o h (r .two) (r .accepted), by role o h (r .two) (r .accepted) .credit)
 
-  verdict-by : (id end : ℕ) (fin : Bool) → endsOf (stateOf o h .conn) (entryOf (stateOf o h .table) id) id end fin ≡ ruling (countOf (stateOf o h .conn) (halfOf id)) (creditOf (stateOf o h) id) (own h id) id end fin
+  verdict-by : (id end : ℕ) (fin : Bool) → endsOf (stateOf role o h .conn) (entryOf (stateOf role o h .table) id) id end fin ≡ ruling (countOf (stateOf role o h .conn) (halfOf id)) (creditOf (stateOf role o h) id) (own h id) id end fin
   unfolding endsOf ruling
   verdict-by id end fin = go (rule1 n (streamOf id)) refl (rule2 n (streamOf id)) refl
     where
       n : ℕ
-      n = countOf (stateOf o h .conn) (id % 4)
+      n = countOf (stateOf role o h .conn) (id % 4)
 
-      f : Fits (stateOf o h .conn) (stateOf o h .table)
-      f = always o h (r .accepted)
+      f : Fits (stateOf role o h .conn) (stateOf role o h .table)
+      f = always role o h (r .accepted)
 
       -- rules 3 to 5 by the entry, and 3 and 4 by the stream's own frames
       entered : Answer
       entered =
-          rule3 (finalOf (entryOf (stateOf o h .table) id .size)) (entryOf (stateOf o h .table) id .end) end fin ⇒ FinalSize
-          ∣ rule4 (entryOf (stateOf o h .table) id .credit) end ⇒ FlowControl
-          ∣ rule5 (stateOf o h .conn .limits .credit) (stateOf o h .conn .total) (entryOf (stateOf o h .table) id .end) end ⇒ FlowControl
+          rule3 (finalOf (entryOf (stateOf role o h .table) id .size)) (entryOf (stateOf role o h .table) id .end) end fin ⇒ FinalSize
+          ∣ rule4 (entryOf (stateOf role o h .table) id .credit) end ⇒ FlowControl
+          ∣ rule5 (stateOf role o h .conn .limits .credit) (stateOf role o h .conn .total) (entryOf (stateOf role o h .table) id .end) end ⇒ FlowControl
           ∣ Accepted
 
       named : Answer
       named =
           rule3 (finalNamed (own h id)) (furthestOf (own h id)) end fin ⇒ FinalSize
-          ∣ rule4 (creditOf (stateOf o h) id) end ⇒ FlowControl
+          ∣ rule4 (creditOf (stateOf role o h) id) end ⇒ FlowControl
           ∣ Accepted
 
       rules : rule1 n (streamOf id) ≡ false → rule2 n (streamOf id) ≡ false → entered ≡ named
       rules a b =
           let m = may n id a b in
           let has : Has id = (m .0, omega (arith, f .conn .count-top (id % 4))) in
-          let w = owned o h id (r .accepted) has in
-          let k = credit-is (stateOf o h) id has in
-          (λ j. rule3 (w .size-is j) (w .end-is j) end fin ⇒ FinalSize ∣ rule4 (sym k j) end ⇒ FlowControl ∣ rule5 (stateOf o h .conn .limits .credit) (stateOf o h .conn .total) (w .end-is j) end ⇒ FlowControl ∣ Accepted)
+          let w = owned role o h id (r .accepted) has in
+          let k = credit-is (stateOf role o h) id has in
+          (λ j. rule3 (w .size-is j) (w .end-is j) end fin ⇒ FinalSize ∣ rule4 (sym k j) end ⇒ FlowControl ∣ rule5 (stateOf role o h .conn .limits .credit) (stateOf role o h .conn .total) (w .end-is j) end ⇒ FlowControl ∣ Accepted)
           ∙ ap (λ (x : Answer). rule3 (finalNamed (own h id)) (furthestOf (own h id)) end fin ⇒ FinalSize ∣ x)
-          (last-rules (stateOf o h .conn .limits .credit) (stateOf o h .conn .total) (creditOf (stateOf o h) id) (furthestOf (own h id)) end (λ l. omega (arith, w .end-is, room (stateOf o h) f id end (m .0) (m .1) (omega arith) enough-in)))
+          (last-rules (stateOf role o h .conn .limits .credit) (stateOf role o h .conn .total) (creditOf (stateOf role o h) id) (furthestOf (own h id)) end (λ l. omega (arith, w .end-is, room (stateOf role o h) f id end (m .0) (m .1) (omega arith) enough-in)))
 
       go : (x : Bool) → rule1 n (streamOf id) ≡ x → (y : Bool) → rule2 n (streamOf id) ≡ y
           → (rule1 n (streamOf id) ⇒ StreamState ∣ rule2 n (streamOf id) ⇒ StreamLimit ∣ entered) ≡ (rule1 n (streamOf id) ⇒ StreamState ∣ rule2 n (streamOf id) ⇒ StreamLimit ∣ named)
@@ -221,28 +222,28 @@ module _ (o : Limits) (h : List Event) (r : Running o h) where
       go false a true b = simp (a, b)
       go false a false b = simp (a, b) (rules a b)
 
-  open-is : isOpen (stateOf o h .conn .mark) ≡ true
+  open-is : isOpen (stateOf role o h .conn .mark) ≡ true
   open-is = ap isOpen (r .still-open)
 
   -- Demand 3, the verdict: it is the ruling by the frame, the stream count for its type, the stream's credit, and its own accepted frames
-  pub verdict-is-own : (id end : ℕ) (fin : Bool) → answerOf (stateOf o h) (Got (Ends id end fin)) ≡ ruling (countBy o h (halfOf id)) (streamCreditBy o h id) (own h id) id end fin
+  pub verdict-is-own : (id end : ℕ) (fin : Bool) → answerOf (stateOf role o h) (Got (Ends id end fin)) ≡ ruling (countBy o h (halfOf id)) (streamCreditBy o h id) (own h id) id end fin
   unfolding answerOf ruledOf verdictOf
-  verdict-is-own id end fin = simp (fits-test _ _ (always o h (r .accepted)), open-is) (verdict-by id end fin ∙ (λ j. ruling (count-by o h (r .two) (r .accepted) id j) (credit-by o h id (r .accepted) j) (own h id) id end fin))
+  verdict-is-own id end fin = simp (fits-test _ _ (always role o h (r .accepted)), open-is) (verdict-by id end fin ∙ (λ j. ruling (count-by role o h (r .two) (r .accepted) id j) (credit-by role o h id (r .accepted) j) (own h id) id end fin))
 
   -- and rule 5 never refuses what rules 1, 2 and 4 let pass
   pub neighbours-never : (id end : ℕ) → maySendBy o h id ≡ true → end ≤ streamCreditBy o h id → rule5 (creditBy o h) (sumTo 256 (furthest h)) (furthest h id) end ≡ false
   unfolding rule5
   neighbours-never id end m l =
-      let f = always o h (r .accepted) in
+      let f = always role o h (r .accepted) in
       let a = and-eq-true-iff (receives (id % 4)) (ltb (id / 4) (countBy o h (id % 4))) .0 m in
       let k : id % 4 < 3 = ltb-true (id % 4) 3 (a .0) in
-      let n = count-by o h (r .two) (r .accepted) id in
-      let b : id / 4 < countOf (stateOf o h .conn) (id % 4) = omega (arith, ltb-true (id / 4) (countBy o h (id % 4)) (a .1)) in
+      let n = count-by role o h (r .two) (r .accepted) id in
+      let b : id / 4 < countOf (stateOf role o h .conn) (id % 4) = omega (arith, ltb-true (id / 4) (countBy o h (id % 4)) (a .1)) in
       let has : Has id = (k, omega (arith, f .conn .count-top (id % 4))) in
-      let e = owned o h id (r .accepted) has .end-is in
-      let t = total-is-sum o h (r .accepted) 256 (omega arith) in
-      let s = by o h (r .two) (r .accepted) .credit in
-      let q = room (stateOf o h) f id end k b (omega (arith, credit-is (stateOf o h) id has, credit-by o h id (r .accepted))) enough-in in
+      let e = owned role o h id (r .accepted) has .end-is in
+      let t = total-is-sum role o h (r .accepted) 256 (omega arith) in
+      let s = by role o h (r .two) (r .accepted) .credit in
+      let q = room (stateOf role o h) f id end k b (omega (arith, credit-is (stateOf role o h) id has, credit-by role o h id (r .accepted))) enough-in in
       le-ltb (creditBy o h) (sumTo 256 (furthest h) + (end - furthest h id)) (omega arith)
 
 nothing : furthestOf [] ≡ 0
@@ -252,26 +253,26 @@ nothing = refl
 -- ---- Demand 3, as it is read
 
 -- the sum, and the credits, of every history; the table always fits
-pub record Accounts (o : Limits) (h : List Event) : Type 0 where
-  pub total-is : (n : ℕ) → 256 ≤ n → stateOf o h .conn .total ≡ sumTo n (furthest h)
-  pub total-within : stateOf o h .conn .total ≤ creditBy o h
+pub record Accounts (role : Role) (o : Limits) (h : List Event) : Type 0 where
+  pub total-is : (n : ℕ) → 256 ≤ n → stateOf role o h .conn .total ≡ sumTo n (furthest h)
+  pub total-within : stateOf role o h .conn .total ≤ creditBy o h
   pub each-within : (id : ℕ) → furthest h id ≤ streamCreditBy o h id
-  pub never-120 : fits (stateOf o h .conn) (stateOf o h .table) ≡ true
+  pub never-120 : fits (stateOf role o h .conn) (stateOf role o h .table) ≡ true
 
-pub accounts : (o : Limits) (h : List Event) → length (o .counts) ≡ 2 → AllAccepted o h → Accounts o h
-accounts o h two a = record {
-  total-is = total-is-sum o h a;
-  total-within = omega (arith, always o h a .conn .within, said o h two a .credit);
-  each-within = λ id. omega (arith, each id (decLe 3 (id % 4)) (decLe 64 (id / 4)), credit-by o h id a);
-  never-120 = fits-test _ _ (always o h a);
+pub accounts : (role : Role) (o : Limits) (h : List Event) → length (o .counts) ≡ 2 → AllAccepted role o h → Accounts role o h
+accounts role o h two a = record {
+  total-is = total-is-sum role o h a;
+  total-within = omega (arith, always role o h a .conn .within, said role o h two a .credit);
+  each-within = λ id. omega (arith, each id (decLe 3 (id % 4)) (decLe 64 (id / 4)), credit-by role o h id a);
+  never-120 = fits-test _ _ (always role o h a);
 }
   where
-    none : (id : ℕ) → (Has id → ⊥) → furthest h id ≤ creditOf (stateOf o h) id
-    none id b = let e : furthest h id ≡ furthestOf [] = ap furthestOf (unowned o h id a b) in omega (arith, nothing)
+    none : (id : ℕ) → (Has id → ⊥) → furthest h id ≤ creditOf (stateOf role o h) id
+    none id b = let e : furthest h id ≡ furthestOf [] = ap furthestOf (unowned role o h id a b) in omega (arith, nothing)
 
-    each : (id : ℕ) → Dec (3 ≤ id % 4) → Dec (64 ≤ id / 4) → furthest h id ≤ creditOf (stateOf o h) id
+    each : (id : ℕ) → Dec (3 ≤ id % 4) → Dec (64 ≤ id / 4) → furthest h id ≤ creditOf (stateOf role o h) id
     each id (yes p) d = none id (λ x. omega arith)
     each id (no p) (yes q) = none id (λ x. omega arith)
     each id (no p) (no q) =
         let has : Has id = (omega arith, omega arith) in
-        omega (arith, owned o h id a has .end-is, credit-is (stateOf o h) id has, always o h a .each (placeOf id) (omega (arith, place-is id has)) .within)
+        omega (arith, owned role o h id a has .end-is, credit-is (stateOf role o h) id has, always role o h a .each (placeOf id) (omega (arith, place-is id has)) .within)

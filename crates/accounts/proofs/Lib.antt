@@ -13,3 +13,4 @@ pub mod Rules
 pub mod Steps
 pub mod Sums
 pub mod Tests
+pub mod Seats

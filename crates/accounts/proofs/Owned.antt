@@ -10,6 +10,7 @@ use lib.ListN.{getD, set, length}
 use lib.Seq.{getD-set-same, getD-set-other, set-getD}
 use lib.Dec.{leb, eqb}
 use borrow.Author.Tests.{eq-eqb, ne-eqb, leb-true}
+use Rattle.kinds.specs.declared.Role.{Role}
 use Rattle.answers.specs.Choice.{_⇒_∣_}
 use Rattle.answers.specs.declared.Answer.the-variants.{Accepted, AboveCeiling}
 use Rattle.answers.proofs.Distinct.{impossible}
@@ -48,9 +49,9 @@ list-at zero i f d l = absurd (omega arith)
 list-at (suc n) zero f d l = refl
 list-at (suc n) (suc i) f d l = list-at n i (λ k. f (suc k)) d (omega arith)
 
-pub table-at : (o : Limits) (i : ℕ) → i < 192 → entryAt (opened o .table) i ≡ fresh (initialOf o (i / 64))
+pub table-at : (role : Role) (o : Limits) (i : ℕ) → i < 192 → entryAt (opened role o .table) i ≡ fresh (initialOf o (i / 64))
 unfolding opened
-table-at o i l = list-at 192 i (λ k. fresh (initialOf o (k / 64))) (fresh 0) l
+table-at role o i l = list-at 192 i (λ k. fresh (initialOf o (k / 64))) (fresh 0) l
 
 fresh-ok : (c : Conn) (i n : ℕ) → n ≤ mostCredit → n ≡ initialOf (c .limits) (i / 64) → EntryOk c i (fresh n)
 fresh-ok c i n l e = record {
@@ -61,11 +62,11 @@ fresh-ok c i n l e = record {
 }
 
 -- an opening that is accepted has limits within their ceilings
-within-all : (o : Limits) → WasOpened o → limitsFit o ≡ true
+within-all : (role : Role) (o : Limits) → WasOpened role o → limitsFit o ≡ true
 unfolding openingOf
-within-all o h = go (limitsFit o) refl h
+within-all role o h = go (limitsFit o) refl h
   where
-    go : (b : Bool) → limitsFit o ≡ b → (b ⇒ record { answer = Accepted; conn = openedConn o Open } ∣ unopenedOf AboveCeiling) .answer ≡ Accepted → limitsFit o ≡ true
+    go : (b : Bool) → limitsFit o ≡ b → (b ⇒ record { answer = Accepted; conn = openedConn role o Open } ∣ unopenedOf role AboveCeiling) .answer ≡ Accepted → limitsFit o ≡ true
     go true e p = e
     go false e p = impossible cc
 
@@ -76,10 +77,10 @@ record Tops (o : Limits) : Type 0 where
   one-way : getD (o .counts) 1 0 ≤ mostStreams
   initial : (half : ℕ) → initialOf o half ≤ mostCredit
 
-tops : (o : Limits) → WasOpened o → Tops o
+tops : (role : Role) (o : Limits) → WasOpened role o → Tops o
 unfolding limitsFit
-tops o h =
-    let e = within-all o h in
+tops role o h =
+    let e = within-all role o h in
     let a = and-eq-true-iff (leb (o .credit) mostCredit) _ .0 e in
     let b = and-eq-true-iff (leb (getD (o .counts) 0 0) mostStreams) _ .0 (a .1) in
     let d = and-eq-true-iff (leb (getD (o .counts) 1 0) mostStreams) _ .0 (b .1) in
@@ -93,44 +94,44 @@ tops o h =
     each x y z (suc (suc half)) = z
 
 -- nothing is open at first
-pub none-open : (o : Limits) (half : ℕ) → openedOf (openedConn o Open) half ≡ 0
-none-open o zero = refl
-none-open o (suc zero) = refl
-none-open o (suc (suc zero)) = refl
-none-open o (suc (suc (suc zero))) = refl
-none-open o (suc (suc (suc (suc half)))) = refl
+pub none-open : (role : Role) (o : Limits) (half : ℕ) → openedOf (openedConn role o Open) half ≡ 0
+none-open role o zero = refl
+none-open role o (suc zero) = refl
+none-open role o (suc (suc zero)) = refl
+none-open role o (suc (suc (suc zero))) = refl
+none-open role o (suc (suc (suc (suc half)))) = refl
 
-first-count : (o : Limits) → Tops o → (half : ℕ) → countOf (openedConn o Open) half ≤ mostStreams
+first-count : (role : Role) (o : Limits) → Tops o → (half : ℕ) → countOf (openedConn role o Open) half ≤ mostStreams
 unfolding countOf
-first-count o k zero = k .two-way
-first-count o k (suc zero) = omega arith
-first-count o k (suc (suc zero)) = k .one-way
-first-count o k (suc (suc (suc half))) = omega (arith, count-ours (openedConn o Open) (suc (suc (suc half))) (simp (ne-eqb (suc (suc (suc half))) 0 (λ e. omega arith), ne-eqb (suc (suc (suc half))) 2 (λ e. omega arith))), none-open o (suc (suc (suc half))))
+first-count role o k zero = k .two-way
+first-count role o k (suc zero) = omega arith
+first-count role o k (suc (suc zero)) = k .one-way
+first-count role o k (suc (suc (suc half))) = omega (arith, count-ours (openedConn role o Open) (suc (suc (suc half))) (simp (ne-eqb (suc (suc (suc half))) 0 (λ e. omega arith), ne-eqb (suc (suc (suc half))) 2 (λ e. omega arith))), none-open role o (suc (suc (suc half))))
 
-open-fits : (o : Limits) → WasOpened o → Fits (opened o .conn) (opened o .table)
+open-fits : (role : Role) (o : Limits) → WasOpened role o → Fits (opened role o .conn) (opened role o .table)
 unfolding opened
-open-fits o h =
-    let k = tops o h in
+open-fits role o h =
+    let k = tops role o h in
     record {
       long = length-list 192 (λ i. fresh (initialOf o (i / 64)));
-      each = λ i l. rw (table-at o i l) (fresh-ok (opened o .conn) i (initialOf o (i / 64)) (k .initial (i / 64)) refl);
-      sum = sym (sum-zero 192 (λ i. entryAt (opened o .table) i .end) (λ i l. ap (λ (x : Entry). x .end) (table-at o i l)));
+      each = λ i l. rw (table-at role o i l) (fresh-ok (opened role o .conn) i (initialOf o (i / 64)) (k .initial (i / 64)) refl);
+      sum = sym (sum-zero 192 (λ i. entryAt (opened role o .table) i .end) (λ i l. ap (λ (x : Entry). x .end) (table-at role o i l)));
       conn = record {
         four = refl;
         within = omega arith;
         credit-top = k .credit;
         initial-top = k .initial;
-        count-top = first-count o k;
-        opened-in = λ half. omega (arith, none-open o half);
+        count-top = first-count role o k;
+        opened-in = λ half. omega (arith, none-open role o half);
       };
     }
 
 -- ---- the table fits, always
 
-pub always : (o : Limits) (h : List Event) → AllAccepted o h → Fits (stateOf o h .conn) (stateOf o h .table)
+pub always : (role : Role) (o : Limits) (h : List Event) → AllAccepted role o h → Fits (stateOf role o h .conn) (stateOf role o h .table)
 unfolding stateOf AllAccepted
-always o [] a = open-fits o a
-always o (ev ∷ h) a = step-fits (stateOf o h) ev (always o h (a .0)) (a .1)
+always role o [] a = open-fits role o a
+always role o (ev ∷ h) a = step-fits (stateOf role o h) ev (always role o h (a .0)) (a .1)
 
 -- ---- each entry holds what its stream's own frames named
 
@@ -196,10 +197,10 @@ own-step c t (Did (RaiseCount ty n)) h id f r b w = own-same t (own h id) id w
 own-step c t (Did (OpenNext ty)) h id f r b w = own-same t (own h id) id w
 own-step c t (Gave space) h id f r b w = own-same t (own h id) id w
 
-pub owned : (o : Limits) (h : List Event) (id : ℕ) → AllAccepted o h → Has id → Owned (own h id) (entryOf (stateOf o h .table) id)
+pub owned : (role : Role) (o : Limits) (h : List Event) (id : ℕ) → AllAccepted role o h → Has id → Owned (own h id) (entryOf (stateOf role o h .table) id)
 unfolding stateOf AllAccepted after own
-owned o [] id a b = rw (table-at o (placeOf id) (omega (arith, place-is id b))) (owned-fresh _)
-owned o (ev ∷ h) id a b = own-step (stateOf o h .conn) (stateOf o h .table) ev h id (always o h (a .0)) (passes (stateOf o h) ev (a .1)) b (owned o h id (a .0) b)
+owned role o [] id a b = rw (table-at role o (placeOf id) (omega (arith, place-is id b))) (owned-fresh _)
+owned role o (ev ∷ h) id a b = own-step (stateOf role o h .conn) (stateOf role o h .table) ev h id (always role o h (a .0)) (passes (stateOf role o h) ev (a .1)) b (owned role o h id (a .0) b)
 
 -- a stream without an entry has no accepted frame
 own-not : (n end : ℕ) (fin : Bool) (l : List End) (id : ℕ) → Has n → (Has id → ⊥) → l ≡ [] → added (eqb n id) (record { end = end; fin = fin }) l ≡ []
@@ -216,7 +217,7 @@ none-step c t (Got Nothing) h id f r b e = e
 none-step c t (Did call) h id f r b e = e
 none-step c t (Gave space) h id f r b e = e
 
-pub unowned : (o : Limits) (h : List Event) (id : ℕ) → AllAccepted o h → (Has id → ⊥) → own h id ≡ []
+pub unowned : (role : Role) (o : Limits) (h : List Event) (id : ℕ) → AllAccepted role o h → (Has id → ⊥) → own h id ≡ []
 unfolding AllAccepted own
-unowned o [] id a b = refl
-unowned o (ev ∷ h) id a b = none-step (stateOf o h .conn) (stateOf o h .table) ev h id (always o h (a .0)) (passes (stateOf o h) ev (a .1)) b (unowned o h id (a .0) b)
+unowned role o [] id a b = refl
+unowned role o (ev ∷ h) id a b = none-step (stateOf role o h .conn) (stateOf role o h .table) ev h id (always role o h (a .0)) (passes (stateOf role o h) ev (a .1)) b (unowned role o h id (a .0) b)

@@ -30,7 +30,8 @@ use Rattle.rules.specs.Rules.{rule1, rule2, against, rule3, endsOf, blockedOf, 
 use Rattle.verdicts.specs.Verdict.{verdictOf, connHeard, entryHeard}
 use Rattle.rules.proofs.Taken as rules
 use Rattle.calls.specs.declared.Call.the-variants.{RaiseCredit, RaiseStream, RaiseCount, OpenNext}
-use Rattle.calls.specs.Calls.{raiseOf, peersType, oursType, nextOf, replyOf}
+use Rattle.calls.specs.Calls.{raiseOf, peersType, oursType, replyOf}
+use Rattle.replies.specs.Replies.{nextOf}
 use Rattle.limits.specs.Fits.{fits}
 use Rattle.accounts.specs.History.{Event, looksAt, ruledOf, connAfter, entryAfter, State, handsOut, answerOf, after}
 use Rattle.accounts.specs.History.Event.{Got, Did, Gave}

@@ -3,6 +3,7 @@ use Prim.Native.Nat.{ℕ, _-_, _^_}
 use mathlib.Core.Path.{_≡_}
 use mathlib.Core.Bool.{true, false}
 use mathlib.Core.List.{[], _∷_, map}
+use Rattle.kinds.specs.declared.Role.the-variants.{Server}
 use Rattle.kinds.specs.declared.Kind.{Kind}
 use Rattle.kinds.specs.declared.Kind.the-variants.{Initial as Initial', Handshake as Handshake', ZeroRtt, OneRtt}
 use Rattle.frames.specs.declared.Frame.the-variants as Frame'
@@ -18,16 +19,16 @@ named ty ordinal = record { half = ty; ordinal = ordinal }
 
 pub record Asked : Type 0 where
   -- "STREAM with end = offset + length", with FIN and without; "RESET_STREAM: [..] its final size taken as an end with FIN"
-  pub ends : (kind : Kind) → map (viewOf kind) (Frame'.Stream 3 5 true 8 11 ∷ Frame'.Stream 3 5 false 8 11 ∷ Frame'.ResetStream 3 5 8 ∷ []) ≡ Ends 3 16 true ∷ Ends 3 16 false ∷ Ends 3 8 true ∷ []
+  pub ends : (kind : Kind) → map (viewOf Server kind) (Frame'.Stream 3 5 true 8 11 ∷ Frame'.Stream 3 5 false 8 11 ∷ Frame'.ResetStream 3 5 8 ∷ []) ≡ Ends 3 16 true ∷ Ends 3 16 false ∷ Ends 3 8 true ∷ []
   -- STREAM_DATA_BLOCKED; STOP_SENDING and MAX_STREAM_DATA
-  pub without-end : (kind : Kind) → map (viewOf kind) (Frame'.StreamDataBlocked 3 5 ∷ Frame'.StopSending 3 5 ∷ Frame'.MaxStreamData 3 5 ∷ []) ≡ Blocks 3 ∷ ForSender 3 ∷ ForSender 3 ∷ []
+  pub without-end : (kind : Kind) → map (viewOf Server kind) (Frame'.StreamDataBlocked 3 5 ∷ Frame'.StopSending 3 5 ∷ Frame'.MaxStreamData 3 5 ∷ []) ≡ Blocks 3 ∷ ForSender 3 ∷ ForSender 3 ∷ []
   -- an ACK in its space: "Three spaces: Initial, Handshake, and one for 0-RTT with 1-RTT"
-  pub acknowledges : map (λ kind. viewOf kind (Frame'.Ack 3 5 8 11 14)) (Initial' ∷ Handshake' ∷ ZeroRtt ∷ OneRtt ∷ []) ≡ Acks Initial 3 ∷ Acks Handshake 3 ∷ Acks Application 3 ∷ Acks Application 3 ∷ []
-  pub acknowledges-counts : map (λ kind. viewOf kind (Frame'.AckEcn 3 5 8 11 14 17 20 23)) (Initial' ∷ Handshake' ∷ ZeroRtt ∷ OneRtt ∷ []) ≡ Acks Initial 3 ∷ Acks Handshake 3 ∷ Acks Application 3 ∷ Acks Application 3 ∷ []
+  pub acknowledges : map (λ kind. viewOf Server kind (Frame'.Ack 3 5 8 11 14)) (Initial' ∷ Handshake' ∷ ZeroRtt ∷ OneRtt ∷ []) ≡ Acks Initial 3 ∷ Acks Handshake 3 ∷ Acks Application 3 ∷ Acks Application 3 ∷ []
+  pub acknowledges-counts : map (λ kind. viewOf Server kind (Frame'.AckEcn 3 5 8 11 14 17 20 23)) (Initial' ∷ Handshake' ∷ ZeroRtt ∷ OneRtt ∷ []) ≡ Acks Initial 3 ∷ Acks Handshake 3 ∷ Acks Application 3 ∷ Acks Application 3 ∷ []
   -- CONNECTION_CLOSE of both types
-  pub closes : (kind : Kind) → map (viewOf kind) (Frame'.ConnectionClose 3 5 8 11 ∷ Frame'.ApplicationClose 3 5 8 ∷ []) ≡ Closes ∷ Closes ∷ []
+  pub closes : (kind : Kind) → map (viewOf Server kind) (Frame'.ConnectionClose 3 5 8 11 ∷ Frame'.ApplicationClose 3 5 8 ∷ []) ≡ Closes ∷ Closes ∷ []
   -- the other thirteen ask nothing
-  pub others : (kind : Kind) → map (viewOf kind) (Frame'.Padding ∷ Frame'.Ping ∷ Frame'.Crypto 3 5 8 ∷ Frame'.NewToken 3 5 ∷ Frame'.MaxData 3 ∷ Frame'.MaxStreams false 3 ∷ Frame'.MaxStreams true 3 ∷ Frame'.DataBlocked 3 ∷ Frame'.StreamsBlocked false 3 ∷ Frame'.StreamsBlocked true 3 ∷ Frame'.NewConnectionId 3 5 8 11 14 ∷ Frame'.RetireConnectionId 3 ∷ Frame'.PathChallenge 3 ∷ Frame'.PathResponse 3 ∷ Frame'.HandshakeDone ∷ [])
+  pub others : (kind : Kind) → map (viewOf Server kind) (Frame'.Padding ∷ Frame'.Ping ∷ Frame'.Crypto 3 5 8 ∷ Frame'.NewToken 3 5 ∷ Frame'.MaxData 3 ∷ Frame'.MaxStreams false 3 ∷ Frame'.MaxStreams true 3 ∷ Frame'.DataBlocked 3 ∷ Frame'.StreamsBlocked false 3 ∷ Frame'.StreamsBlocked true 3 ∷ Frame'.NewConnectionId 3 5 8 11 14 ∷ Frame'.RetireConnectionId 3 ∷ Frame'.PathChallenge 3 ∷ Frame'.PathResponse 3 ∷ Frame'.HandshakeDone ∷ [])
       ≡ Nothing ∷ Nothing ∷ Nothing ∷ Nothing ∷ Nothing ∷ Nothing ∷ Nothing ∷ Nothing ∷ Nothing ∷ Nothing ∷ Nothing ∷ Nothing ∷ Nothing ∷ Nothing ∷ Nothing ∷ []
   -- offset plus length as far as 64 bits hold it
   pub end-sums : endOf 0 0 ≡ 0

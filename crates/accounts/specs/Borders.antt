@@ -3,6 +3,7 @@ use Prim.Native.Nat.{ℕ, _-_, _^_}
 use mathlib.Core.Path.{_≡_}
 use mathlib.Core.Bool.{true, false}
 use mathlib.Core.List.{List, [], _∷_, map}
+use Rattle.kinds.specs.declared.Role.the-variants.{Server}
 use Rattle.answers.specs.Answers.{numberOf}
 use Rattle.kinds.specs.declared.Kind.the-variants.{Initial as Initial', Handshake as Handshake', ZeroRtt, OneRtt}
 use Rattle.frames.specs.declared.Frame.the-variants.{Ack, AckEcn, ResetStream, StopSending, Stream, MaxData, MaxStreamData, StreamDataBlocked, ConnectionClose, ApplicationClose}
@@ -21,7 +22,7 @@ use Rattle.views.specs.View.{viewOf}
 use Rattle.verdicts.specs.Verdict.{verdictOf, connHeard}
 use Rattle.calls.specs.declared.Call.{Call}
 use Rattle.calls.specs.declared.Call.the-variants.{RaiseCredit, RaiseStream, RaiseCount, OpenNext}
-use Rattle.calls.specs.Calls.{repliedOf}
+use Rattle.replies.specs.Replies.{repliedOf}
 use Rattle.limits.specs.declared.fits.Summed.the-variants.{To, Unfit}
 use Rattle.limits.specs.Fits.{entryFits, connFits, summedOf, concludedOf}
 
@@ -31,11 +32,11 @@ limits credit two-way one-way peers ours single = record { credit = credit; coun
 
 -- a connection with counts 4 and 4, stream credits 16, connection credit 40, so many streams of each half open, a next number of the last space, and a mark
 abbrev pub bench : ℕ → ℕ → ℕ → ℕ → ℕ → Mark → Conn
-bench open0 open1 open2 open3 next mark = record { limits = limits 40 4 4 16 16 16; opened = open0 ∷ open1 ∷ open2 ∷ open3 ∷ []; total = 0; next = 0 ∷ 0 ∷ next ∷ []; mark = mark }
+bench open0 open1 open2 open3 next mark = record { limits = limits 40 4 4 16 16 16; opened = open0 ∷ open1 ∷ open2 ∷ open3 ∷ []; total = 0; next = 0 ∷ 0 ∷ next ∷ []; mark = mark; role = Server }
 
 -- a connection all of whose numbers differ, so that none can stand for another: counts 3 and 5, stream credits 16, 17 and 18, connection credit 40, next numbers 7, 8 and 9
 abbrev pub held : ℕ → ℕ → ℕ → ℕ → ℕ → Mark → Conn
-held open0 open1 open2 open3 total mark = record { limits = limits 40 3 5 16 17 18; opened = open0 ∷ open1 ∷ open2 ∷ open3 ∷ []; total = total; next = 7 ∷ 8 ∷ 9 ∷ []; mark = mark }
+held open0 open1 open2 open3 total mark = record { limits = limits 40 3 5 16 17 18; opened = open0 ∷ open1 ∷ open2 ∷ open3 ∷ []; total = total; next = 7 ∷ 8 ∷ 9 ∷ []; mark = mark; role = Server }
 
 -- one of them: of types 0 to 3, 1, 2, 3 and 4 streams are open, and the total is 20
 abbrev pub before : Conn
@@ -58,11 +59,11 @@ called c e l = map (λ k. numberOf (repliedOf c e k .called .answer)) l
 
 pub record Borders : Type 0 where
   -- which frame asks what: each that names a stream or acknowledges, the two that close, and one that asks nothing
-  pub views : map (viewOf ZeroRtt) (StopSending 8 1 ∷ MaxStreamData 8 1 ∷ StreamDataBlocked 8 1 ∷ ResetStream 8 1 5 ∷ Stream 8 2 true 0 3 ∷ ConnectionClose 1 0 0 0 ∷ ApplicationClose 1 0 0 ∷ MaxData 1 ∷ [])
+  pub views : map (viewOf Server ZeroRtt) (StopSending 8 1 ∷ MaxStreamData 8 1 ∷ StreamDataBlocked 8 1 ∷ ResetStream 8 1 5 ∷ Stream 8 2 true 0 3 ∷ ConnectionClose 1 0 0 0 ∷ ApplicationClose 1 0 0 ∷ MaxData 1 ∷ [])
       ≡ ForSender 8 ∷ ForSender 8 ∷ Blocks 8 ∷ Ends 8 5 true ∷ Ends 8 5 true ∷ Closes ∷ Closes ∷ Nothing ∷ []
   -- "Three spaces: Initial, Handshake, and one for 0-RTT with 1-RTT"
-  pub spaces : map (λ kind. viewOf kind (Ack 7 0 0 0 0)) (Initial' ∷ Handshake' ∷ ZeroRtt ∷ OneRtt ∷ []) ≡ Acks Initial 7 ∷ Acks Handshake 7 ∷ Acks Application 7 ∷ Acks Application 7 ∷ []
-  pub spaces-ecn : map (λ kind. viewOf kind (AckEcn 7 0 0 0 0 1 2 3)) (Initial' ∷ Handshake' ∷ ZeroRtt ∷ OneRtt ∷ []) ≡ Acks Initial 7 ∷ Acks Handshake 7 ∷ Acks Application 7 ∷ Acks Application 7 ∷ []
+  pub spaces : map (λ kind. viewOf Server kind (Ack 7 0 0 0 0)) (Initial' ∷ Handshake' ∷ ZeroRtt ∷ OneRtt ∷ []) ≡ Acks Initial 7 ∷ Acks Handshake 7 ∷ Acks Application 7 ∷ Acks Application 7 ∷ []
+  pub spaces-ecn : map (λ kind. viewOf Server kind (AckEcn 7 0 0 0 0 1 2 3)) (Initial' ∷ Handshake' ∷ ZeroRtt ∷ OneRtt ∷ []) ≡ Acks Initial 7 ∷ Acks Handshake 7 ∷ Acks Application 7 ∷ Acks Application 7 ∷ []
   -- "STREAM_DATA_BLOCKED: rules 1 and 2": types 0 and 2 by their counts; type 1 by what we opened; type 3 never
   pub blocked : heard (bench 0 1 0 1 0 Open) (Blocks 12 ∷ Blocks 16 ∷ Blocks 14 ∷ Blocks 18 ∷ Blocks 1 ∷ Blocks 5 ∷ Blocks 3 ∷ []) ≡ 0 ∷ 4 ∷ 0 ∷ 4 ∷ 0 ∷ 5 ∷ 5 ∷ []
   -- "STOP_SENDING and MAX_STREAM_DATA: type 2 is 5, type 1 or 3 not opened by us is 5, then rule 2 for type 0"
@@ -89,8 +90,8 @@ pub record Borders : Type 0 where
   pub last-number : map (λ space. numberOf (handedOutOf (bench 0 0 0 0 (2 ^ 62 - 1) Open) space .answer)) (Application ∷ Initial ∷ []) ≡ 0 ∷ 0 ∷ []
   pub no-number : numberOf (handedOutOf (bench 0 0 0 0 (2 ^ 62) Open) Application .answer) ≡ 103
   -- opening: "64 streams a type, credit 2^62-1"
-  pub opened-most : openingOf (limits (2 ^ 62 - 1) 64 64 (2 ^ 62 - 1) (2 ^ 62 - 1) (2 ^ 62 - 1)) .conn ≡ openedConn (limits (2 ^ 62 - 1) 64 64 (2 ^ 62 - 1) (2 ^ 62 - 1) (2 ^ 62 - 1)) Open
-  pub opened-above : map (λ l. numberOf (openingOf l .answer)) (limits 0 64 64 0 0 0 ∷ limits (2 ^ 62) 64 64 0 0 0 ∷ limits 0 65 64 0 0 0 ∷ limits 0 64 65 0 0 0 ∷ limits 0 64 64 (2 ^ 62) 0 0 ∷ limits 0 64 64 0 (2 ^ 62) 0 ∷ limits 0 64 64 0 0 (2 ^ 62) ∷ []) ≡ 0 ∷ 103 ∷ 103 ∷ 103 ∷ 103 ∷ 103 ∷ 103 ∷ []
+  pub opened-most : openingOf Server (limits (2 ^ 62 - 1) 64 64 (2 ^ 62 - 1) (2 ^ 62 - 1) (2 ^ 62 - 1)) .conn ≡ openedConn Server (limits (2 ^ 62 - 1) 64 64 (2 ^ 62 - 1) (2 ^ 62 - 1) (2 ^ 62 - 1)) Open
+  pub opened-above : map (λ l. numberOf (openingOf Server l .answer)) (limits 0 64 64 0 0 0 ∷ limits (2 ^ 62) 64 64 0 0 0 ∷ limits 0 65 64 0 0 0 ∷ limits 0 64 65 0 0 0 ∷ limits 0 64 64 (2 ^ 62) 0 0 ∷ limits 0 64 64 0 (2 ^ 62) 0 ∷ limits 0 64 64 0 0 (2 ^ 62) ∷ []) ≡ 0 ∷ 103 ∷ 103 ∷ 103 ∷ 103 ∷ 103 ∷ 103 ∷ []
   -- 120: "an end is above its credit"
   pub end-fits : map (entryFits (bench 1 0 0 0 0 Open) 0) (entry 16 16 (2 ^ 64 - 1) ∷ entry 16 17 (2 ^ 64 - 1) ∷ []) ≡ true ∷ false ∷ []
   -- "a known final size differs from the end"

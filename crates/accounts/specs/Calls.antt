@@ -2,6 +2,7 @@
 use Prim.Native.Nat.{ℕ, _+_, _-_, _^_}
 use mathlib.Core.Path.{_≡_}
 use mathlib.Core.List.{[], _∷_, map}
+use Rattle.kinds.specs.declared.Role.the-variants.{Server}
 use Rattle.answers.specs.Answers.{numberOf}
 use Rattle.answers.specs.declared.Answer.{Answer}
 use Rattle.answers.specs.declared.Answer.the-variants.{Accepted, FlowControl, Closed, NotAbove, AboveCeiling, NotServed, SizeKnown}
@@ -14,8 +15,9 @@ use Rattle.streams.specs.Conn.{handedOutOf}
 use Rattle.entries.specs.declared.Entry.{Entry}
 use Rattle.calls.specs.declared.Call.{Call}
 use Rattle.calls.specs.declared.Call.the-variants.{RaiseCredit, RaiseStream, RaiseCount, OpenNext}
-use Rattle.calls.specs.declared.Replied.{Replied}
-use Rattle.calls.specs.Calls.{streamIn, raiseOf, connCalled, repliedOf}
+use Rattle.replies.specs.declared.Replied.{Replied}
+use Rattle.calls.specs.Calls.{streamIn, raiseOf}
+use Rattle.replies.specs.Replies.{connCalled, repliedOf}
 use Rattle.accounts.specs.Borders.{limits, held, before, entry, growing, called}
 
 -- the connection before, closed with a code or by the peer
@@ -24,11 +26,11 @@ closedAs mark = held 1 2 3 4 20 mark
 
 -- the same with other limits: the connection credit and the two counts
 abbrev pub limitedBy : ℕ → ℕ → ℕ → Conn
-limitedBy credit two-way one-way = record { limits = limits credit two-way one-way 16 17 18; opened = 1 ∷ 2 ∷ 3 ∷ 4 ∷ []; total = 20; next = 7 ∷ 8 ∷ 9 ∷ []; mark = Open }
+limitedBy credit two-way one-way = record { limits = limits credit two-way one-way 16 17 18; opened = 1 ∷ 2 ∷ 3 ∷ 4 ∷ []; total = 20; next = 7 ∷ 8 ∷ 9 ∷ []; mark = Open; role = Server }
 
 -- the same with other next numbers, and a mark
 abbrev pub numbered : ℕ → ℕ → ℕ → Mark → Conn
-numbered initial handshake application mark = record { limits = limits 40 3 5 16 17 18; opened = 1 ∷ 2 ∷ 3 ∷ 4 ∷ []; total = 20; next = initial ∷ handshake ∷ application ∷ []; mark = mark }
+numbered initial handshake application mark = record { limits = limits 40 3 5 16 17 18; opened = 1 ∷ 2 ∷ 3 ∷ 4 ∷ []; total = 20; next = initial ∷ handshake ∷ application ∷ []; mark = mark; role = Server }
 
 -- a call on an entry with credit 16 and furthest end 6
 abbrev pub replied : Conn → Call → Replied

@@ -4,6 +4,7 @@ use mathlib.Core.Path.{_≡_}
 use mathlib.Core.Bool.{Bool, true, false}
 use mathlib.Core.List.{List, [], _∷_, _++_, map}
 use lib.ListN.{set, take}
+use Rattle.kinds.specs.declared.Role.the-variants.{Server}
 use Rattle.streams.specs.declared.Conn.{Conn}
 use Rattle.streams.specs.declared.Limits.{Limits}
 use Rattle.streams.specs.declared.Mark.the-variants.{Open, ByPeer}
@@ -17,7 +18,7 @@ use Rattle.accounts.specs.Borders.{limits, held, before, entry, growing}
 
 -- a connection with some limits on which nothing has happened
 abbrev pub limited : Limits → Conn
-limited o = record { limits = o; opened = 0 ∷ 0 ∷ 0 ∷ 0 ∷ []; total = 0; next = 7 ∷ 8 ∷ 9 ∷ []; mark = Open }
+limited o = record { limits = o; opened = 0 ∷ 0 ∷ 0 ∷ 0 ∷ []; total = 0; next = 7 ∷ 8 ∷ 9 ∷ []; mark = Open; role = Server }
 
 -- how many streams of each type are open
 abbrev pub opening : ℕ → ℕ → ℕ → ℕ → Conn
@@ -29,7 +30,7 @@ fitting e l = map (λ i. entryFits before i e) l
 
 -- the table as opening sets it
 abbrev pub table : List Entry
-table = opened (limits 40 3 5 16 17 18) .table
+table = opened Server (limits 40 3 5 16 17 18) .table
 
 pub record Fitting : Type 0 where
   -- "a limit is above its ceiling": "64 streams a type, credit 2^62-1", each at its ceiling and each one above it
@@ -45,7 +46,7 @@ pub record Fitting : Type 0 where
   pub total-within : map connFits (held 1 2 3 4 40 Open ∷ held 1 2 3 4 41 Open ∷ []) ≡ true ∷ false ∷ []
   -- "and only then": neither a closing mark nor a number handed out counts
   pub mark-free : connFits (held 1 2 3 4 40 ByPeer) ≡ true
-  pub next-free : connFits (record { limits = limits 40 3 5 16 17 18; opened = 1 ∷ 2 ∷ 3 ∷ 4 ∷ []; total = 20; next = (2 ^ 64 - 1) ∷ (2 ^ 64 - 1) ∷ (2 ^ 64 - 1) ∷ []; mark = Open }) ≡ true
+  pub next-free : connFits (record { limits = limits 40 3 5 16 17 18; opened = 1 ∷ 2 ∷ 3 ∷ 4 ∷ []; total = 20; next = (2 ^ 64 - 1) ∷ (2 ^ 64 - 1) ∷ (2 ^ 64 - 1) ∷ []; mark = Open; role = Server }) ≡ true
   -- "an end is above its credit"
   pub end-within : map (entryFits before 0) (growing 16 0 ∷ growing 16 16 ∷ growing 16 17 ∷ growing 20 20 ∷ growing 20 21 ∷ []) ≡ true ∷ true ∷ false ∷ true ∷ false ∷ []
   -- "a known final size differs from the end"
@@ -87,7 +88,7 @@ pub record Fitting : Type 0 where
   -- the whole check: "it is not 192 entries" ..
   pub whole : map (fits (opening 0 0 0 0)) (table ∷ take 191 table ∷ (table ++ (growing 18 0 ∷ [])) ∷ [] ∷ []) ≡ true ∷ false ∷ false ∷ false ∷ []
   -- .. also where nothing would be missing from a missing entry: type 2 has no initial credit here
-  pub whole-short : map (fits (limited (limits 40 3 5 16 17 0))) (opened (limits 40 3 5 16 17 0) .table ∷ take 191 (opened (limits 40 3 5 16 17 0) .table) ∷ []) ≡ true ∷ false ∷ []
+  pub whole-short : map (fits (limited (limits 40 3 5 16 17 0))) (opened Server (limits 40 3 5 16 17 0) .table ∷ take 191 (opened Server (limits 40 3 5 16 17 0) .table) ∷ []) ≡ true ∷ false ∷ []
   -- .. "the total is not the sum of the ends" ..
   pub whole-total : map (λ total. fits (held 1 0 1 0 total Open) (set (set table 0 (growing 16 6)) 128 (growing 18 9))) (14 ∷ 15 ∷ 16 ∷ []) ≡ false ∷ true ∷ false ∷ []
   -- .. and each entry, to the last

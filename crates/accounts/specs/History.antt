@@ -5,6 +5,7 @@ use mathlib.Core.Bool.{Bool, true, false, not}
 use mathlib.Core.List.{List, [], _∷_}
 use lib.ListN.{set}
 use lib.Dec.{eqb}
+use Rattle.kinds.specs.declared.Role.{Role}
 use Rattle.answers.specs.Choice.{_⇒_∣_}
 use Rattle.answers.specs.declared.Answer.{Answer}
 use Rattle.answers.specs.declared.Answer.the-variants.{Accepted, FlowControl, StreamLimit, StreamState, FinalSize, Closed, DoesNotFit}
@@ -26,10 +27,11 @@ use Rattle.rules.specs.Rules.{rule1, rule2, rule3, rule4}
 use Rattle.verdicts.specs.Verdict.{verdictOf, connHeard, entryHeard}
 use Rattle.calls.specs.declared.Call.{Call}
 use Rattle.calls.specs.Calls as calls
-use Rattle.calls.specs.Calls.{replyOf, connCalled, entryCalled}
+use Rattle.calls.specs.Calls.{replyOf}
+use Rattle.replies.specs.Replies.{connCalled, entryCalled}
 use Rattle.limits.specs.Fits.{fits}
 
--- ---- events: what a frame asked, a local call, and a packet number handed out
+-- ---- events: what a frame asked, a local call, and a packet number handed out; streams and types are named as at a server (halves `Seat`)
 
 pub data Event : Type 0 where
   Got : View → Event
@@ -93,23 +95,23 @@ listTo zero f = []
 listTo (suc n) f = f 0 ∷ listTo n (λ i. f (suc i))
 
 -- "Opening a connection sets every entry to its type's initial credit, end 0, no final size"
-unfoldable pub opened : Limits → State
-opened o = record { conn = openedConn o Open; table = listTo entries (λ i. fresh (initialOf o (i / mostStreams))) }
+unfoldable pub opened : Role → Limits → State
+opened role o = record { conn = openedConn role o Open; table = listTo entries (λ i. fresh (initialOf o (i / mostStreams))) }
 
--- opening with these limits is accepted
-abbrev pub WasOpened : Limits → Type 0
-WasOpened o = openingOf o .answer ≡ Accepted
+-- opening with these limits, as an end of this role, is accepted
+abbrev pub WasOpened : Role → Limits → Type 0
+WasOpened role o = openingOf role o .answer ≡ Accepted
 
 -- ---- histories, the latest event first
 
-unfoldable pub stateOf : Limits → List Event → State
-stateOf o [] = opened o
-stateOf o (ev ∷ h) = after (stateOf o h) ev
+unfoldable pub stateOf : Role → Limits → List Event → State
+stateOf role o [] = opened role o
+stateOf role o (ev ∷ h) = after (stateOf role o h) ev
 
 -- opening and each event were accepted
-unfoldable pub AllAccepted : Limits → List Event → Type 0
-AllAccepted o [] = WasOpened o
-AllAccepted o (ev ∷ h) = AllAccepted o h × (answerOf (stateOf o h) ev ≡ Accepted)
+unfoldable pub AllAccepted : Role → Limits → List Event → Type 0
+AllAccepted role o [] = WasOpened role o
+AllAccepted role o (ev ∷ h) = AllAccepted role o h × (answerOf (stateOf role o h) ev ≡ Accepted)
 
 -- ---- what a history says of a stream, by its events alone
 

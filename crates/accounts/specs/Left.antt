@@ -2,6 +2,7 @@
 use Prim.Native.Nat.{ℕ}
 use mathlib.Core.Path.{_≡_}
 use mathlib.Core.Bool.{true, false}
+use Rattle.kinds.specs.declared.Role.the-variants.{Server}
 use Rattle.answers.specs.declared.Answer.{Answer}
 use Rattle.answers.specs.declared.Answer.the-variants.{Accepted, FlowControl, StreamLimit, StreamState, FinalSize, ProtocolViolation}
 use Rattle.kinds.specs.declared.Kind.the-variants.{OneRtt}
@@ -51,10 +52,10 @@ pub record Left : Type 0 where
   pub final-again : judgedEnded (Ends 0 6 true) ≡ accepted before (entry 16 6 6)
   pub below-final : judgedEnded (Ends 0 3 false) ≡ accepted before (entry 16 6 6)
   -- the frames themselves: STREAM by offset plus length, RESET_STREAM by its final size
-  pub stream : judged (viewOf OneRtt (Stream 4 5 false 2 3)) ≡ accepted (held 2 2 3 4 22 Open) (growing 16 8)
-  pub stream-final : judged (viewOf OneRtt (Stream 4 5 true 2 3)) ≡ accepted (held 2 2 3 4 22 Open) (entry 16 8 8)
-  pub reset : judged (viewOf OneRtt (ResetStream 4 99 9)) ≡ accepted (held 2 2 3 4 23 Open) (entry 16 9 9)
-  pub reset-again : judgedEnded (viewOf OneRtt (ResetStream 0 98 6)) ≡ accepted before (entry 16 6 6)
+  pub stream : judged (viewOf Server OneRtt (Stream 4 5 false 2 3)) ≡ accepted (held 2 2 3 4 22 Open) (growing 16 8)
+  pub stream-final : judged (viewOf Server OneRtt (Stream 4 5 true 2 3)) ≡ accepted (held 2 2 3 4 22 Open) (entry 16 8 8)
+  pub reset : judged (viewOf Server OneRtt (ResetStream 4 99 9)) ≡ accepted (held 2 2 3 4 23 Open) (entry 16 9 9)
+  pub reset-again : judgedEnded (viewOf Server OneRtt (ResetStream 0 98 6)) ≡ accepted before (entry 16 6 6)
   -- STREAM_DATA_BLOCKED, STOP_SENDING and MAX_STREAM_DATA: "These open too", and leave entry and total
   pub blocks : judged (Blocks 8) ≡ accepted (held 3 2 3 4 20 Open) (growing 16 6)
   pub blocks-one-way : judged (Blocks 18) ≡ accepted (held 1 2 5 4 20 Open) (growing 16 6)
@@ -82,7 +83,7 @@ pub record Left : Type 0 where
   pub refused-size-known : judgedOf before (entry 16 6 6) 14 (Ends 8 7 false) ≡ refused FinalSize 14 (entry 16 6 6)
   pub refused-credit : judgedOf before (growing 16 6) 10 (Ends 8 17 false) ≡ refused FlowControl 10 (growing 16 6)
   pub refused-total : judgedOf before (growing 30 6) 10 (Ends 8 27 false) ≡ refused FlowControl 10 (growing 30 6)
-  pub refused-reset : judgedOf before (growing 16 6) 4 (viewOf OneRtt (ResetStream 8 1 17)) ≡ refused FlowControl 4 (growing 16 6)
+  pub refused-reset : judgedOf before (growing 16 6) 4 (viewOf Server OneRtt (ResetStream 8 1 17)) ≡ refused FlowControl 4 (growing 16 6)
   pub refused-blocked : judgedOf before (growing 16 6) 21 (Blocks 12) ≡ refused StreamLimit 21 (growing 16 6)
   pub refused-blocked-ours : judgedOf before (growing 16 6) 21 (Blocks 7) ≡ refused StreamState 21 (growing 16 6)
   pub refused-sends : judgedOf before (growing 16 6) 5 (ForSender 2) ≡ refused StreamState 5 (growing 16 6)

@@ -3,6 +3,7 @@ use Prim.Native.Nat.{ℕ, _-_, _^_}
 use mathlib.Core.Path.{_≡_}
 use mathlib.Core.Bool.{Bool, true, false}
 use mathlib.Core.List.{List, [], _∷_, map}
+use Rattle.kinds.specs.declared.Role.the-variants.{Server}
 use Rattle.answers.specs.Answers.{numberOf}
 use Rattle.kinds.specs.declared.Kind.the-variants.{OneRtt}
 use Rattle.frames.specs.declared.Frame.the-variants.{ResetStream}
@@ -24,7 +25,7 @@ ending c e fin l = map (λ end. numberOf (verdictOf c e (Ends 0 end fin))) l
 
 -- the answers to resets of stream 0 at some final sizes
 abbrev pub resetting : Conn → Entry → List ℕ → List ℕ
-resetting c e l = map (λ size. numberOf (verdictOf c e (viewOf OneRtt (ResetStream 0 1 size)))) l
+resetting c e l = map (λ size. numberOf (verdictOf c e (viewOf Server OneRtt (ResetStream 0 1 size)))) l
 
 -- the answers to one end on some streams
 abbrev pub endingOn : Conn → Entry → ℕ → Bool → List ℕ → List ℕ
@@ -32,7 +33,7 @@ endingOn c e end fin l = map (λ id. numberOf (verdictOf c e (Ends id end fin)))
 
 -- all 64 streams of each type open
 abbrev pub most : Conn
-most = record { limits = limits 40 64 64 16 16 16; opened = 64 ∷ 64 ∷ 64 ∷ 64 ∷ []; total = 0; next = 0 ∷ 0 ∷ 0 ∷ []; mark = Open }
+most = record { limits = limits 40 64 64 16 16 16; opened = 64 ∷ 64 ∷ 64 ∷ 64 ∷ []; total = 0; next = 0 ∷ 0 ∷ 0 ∷ []; mark = Open; role = Server }
 
 pub record Rules : Type 0 where
   -- 1. "type 3, or type 1 not opened by us: 5": of type 1 two are open here, and of type 3 two
@@ -41,7 +42,7 @@ pub record Rules : Type 0 where
   pub second-rule : endingOn (held 0 2 0 2 0 Open) (fresh 16) 1 false (0 ∷ 8 ∷ 12 ∷ 16 ∷ 2 ∷ 14 ∷ 18 ∷ 22 ∷ []) ≡ 0 ∷ 0 ∷ 4 ∷ 4 ∷ 0 ∷ 0 ∷ 0 ∷ 4 ∷ []
   pub second-rule-open : endingOn (held 3 2 5 2 0 Open) (fresh 16) 1 false (8 ∷ 12 ∷ 18 ∷ 22 ∷ []) ≡ 0 ∷ 4 ∷ 0 ∷ 4 ∷ []
   -- .. and a count of 0 allows none
-  pub no-streams : endingOn (record { limits = limits 40 0 0 16 16 16; opened = 0 ∷ 0 ∷ 0 ∷ 0 ∷ []; total = 0; next = 0 ∷ 0 ∷ 0 ∷ []; mark = Open }) (fresh 16) 0 false (0 ∷ 1 ∷ 2 ∷ 3 ∷ []) ≡ 4 ∷ 5 ∷ 4 ∷ 5 ∷ []
+  pub no-streams : endingOn (record { limits = limits 40 0 0 16 16 16; opened = 0 ∷ 0 ∷ 0 ∷ 0 ∷ []; total = 0; next = 0 ∷ 0 ∷ 0 ∷ []; mark = Open; role = Server }) (fresh 16) 0 false (0 ∷ 1 ∷ 2 ∷ 3 ∷ []) ≡ 4 ∷ 5 ∷ 4 ∷ 5 ∷ []
   -- "ordinals 0 to 63": the last stream of each type and the one above it, and the highest ID of each type
   pub last-ordinals : endingOn most (fresh 16) 1 false (252 ∷ 256 ∷ 253 ∷ 257 ∷ 254 ∷ 258 ∷ 255 ∷ 259 ∷ []) ≡ 0 ∷ 4 ∷ 0 ∷ 5 ∷ 0 ∷ 4 ∷ 5 ∷ 5 ∷ []
   pub last-ids : endingOn most (fresh 16) 1 false ((2 ^ 62 - 4) ∷ (2 ^ 62 - 3) ∷ (2 ^ 62 - 2) ∷ (2 ^ 62 - 1) ∷ []) ≡ 4 ∷ 5 ∷ 4 ∷ 5 ∷ []
@@ -88,7 +89,7 @@ pub record Rules : Type 0 where
   pub resets-again : resetting (held 1 0 0 0 10 Open) (entry 16 10 10) (9 ∷ 10 ∷ 11 ∷ []) ≡ 6 ∷ 0 ∷ 6 ∷ []
   pub resets-growth : resetting (held 1 0 0 0 38 Open) (growing 16 10) (12 ∷ 13 ∷ []) ≡ 0 ∷ 3 ∷ []
   -- .. and rules 1 and 2
-  pub resets-others : map (λ id. numberOf (verdictOf (held 1 1 1 1 10 Open) (growing 16 10) (viewOf OneRtt (ResetStream id 1 9)))) (3 ∷ 1 ∷ 5 ∷ 8 ∷ 12 ∷ 18 ∷ 22 ∷ []) ≡ 5 ∷ 6 ∷ 5 ∷ 6 ∷ 4 ∷ 6 ∷ 4 ∷ []
+  pub resets-others : map (λ id. numberOf (verdictOf (held 1 1 1 1 10 Open) (growing 16 10) (viewOf Server OneRtt (ResetStream id 1 9)))) (3 ∷ 1 ∷ 5 ∷ 8 ∷ 12 ∷ 18 ∷ 22 ∷ []) ≡ 5 ∷ 6 ∷ 5 ∷ 6 ∷ 4 ∷ 6 ∷ 4 ∷ []
   -- "STREAM_DATA_BLOCKED: rules 1 and 2": our one-way streams are 5 though open
   pub blocked : heard (held 0 2 0 2 0 Open) (Blocks 8 ∷ Blocks 12 ∷ Blocks 18 ∷ Blocks 22 ∷ Blocks 5 ∷ Blocks 9 ∷ Blocks 3 ∷ Blocks 7 ∷ Blocks 11 ∷ []) ≡ 0 ∷ 4 ∷ 0 ∷ 4 ∷ 0 ∷ 5 ∷ 5 ∷ 5 ∷ 5 ∷ []
   pub blocked-last : heard most (Blocks 252 ∷ Blocks 256 ∷ Blocks 253 ∷ Blocks 257 ∷ Blocks 254 ∷ Blocks 258 ∷ Blocks 255 ∷ Blocks (2 ^ 62 - 4) ∷ Blocks (2 ^ 62 - 3) ∷ Blocks (2 ^ 62 - 2) ∷ Blocks (2 ^ 62 - 1) ∷ []) ≡ 0 ∷ 4 ∷ 0 ∷ 5 ∷ 0 ∷ 4 ∷ 5 ∷ 4 ∷ 5 ∷ 4 ∷ 5 ∷ []

@@ -5,6 +5,7 @@ use mathlib.Core.Bool.{true}
 use mathlib.Core.List.{List, [], _∷_, map}
 use lib.ListN.{replicate, set}
 use lib.IntN.{pos, negsuc}
+use Rattle.kinds.specs.declared.Role.the-variants.{Server}
 use Rattle.answers.specs.Answers.{numberOf}
 use Rattle.kinds.specs.declared.Kind.the-variants.{OneRtt}
 use Rattle.numbers.specs.declared.Size.the-variants.{One, Two}
@@ -34,7 +35,7 @@ abbrev pub alike : ℕ → Records
 alike m = record { initial = only m; handshake = only m; application = only m }
 
 abbrev pub conn : Conn
-conn = record { limits = small; opened = replicate 4 0; total = 0; next = replicate 3 0; mark = Open }
+conn = record { limits = small; opened = replicate 4 0; total = 0; next = replicate 3 0; mark = Open; role = Server }
 
 -- a 1-RTT packet of that byte and a PING, where m is the largest number recorded: its answer and its number
 abbrev pub packet : ℕ → List ℕ

@@ -4,6 +4,7 @@ use mathlib.Core.Path.{_≡_}
 use mathlib.Core.List.{List, [], _∷_}
 use lib.ListN.{replicate}
 use mathlib.Core.List.{_++_}
+use Rattle.kinds.specs.declared.Role.the-variants.{Server}
 use Rattle.answers.specs.Answers.{numberOf}
 use Rattle.wire.specs.Number.{numberAt}
 use Rattle.wire.specs.declared.Number.the-variants.{Is}
@@ -23,7 +24,7 @@ use Rattle.accounts.specs.History.{State}
 
 -- the small connection, opened on a table of 192 entries
 abbrev pub bench : State
-bench = hosted small (replicate entries (fresh 0))
+bench = hosted Server small (replicate entries (fresh 0))
 
 -- payloads of one 1-RTT frame, each taken in turn: the number of each answer, and the total after it
 unfoldable pub taken : State → List (List ℕ) → List (ℕ × ℕ)

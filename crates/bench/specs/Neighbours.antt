@@ -3,6 +3,7 @@ use mathlib.Core.Path.{_≡_}
 use mathlib.Core.List.{List, [], _∷_}
 use lib.ListN.{replicate}
 use Prim.Native.Nat.{ℕ}
+use Rattle.kinds.specs.declared.Role.the-variants.{Server}
 use Rattle.answers.specs.Answers.{numberOf}
 use Rattle.kinds.specs.declared.Kind.the-variants.{OneRtt}
 use Rattle.entries.specs.declared.Entry.{Entry}
@@ -28,9 +29,9 @@ room = replicate entries (fresh 0)
 
 -- the hypothesis can be met, also when other streams have used up their credit: the small connection with credit for all its 8 streams of 16
 abbrev pub Met : Type 0
-Met = Enough (withCredit small 128) room usedUp
+Met = Enough Server (withCredit small 128) room usedUp
 
 -- without it stream 8, within its own limits, suffers for its neighbours: what is accepted first is refused once they have used up theirs
 pub record Suffers : Type 0 where
-  pub before : numberOf (answered (hostAfter small room []) (alone (stream 8 0 9))) ≡ 0
-  pub later : numberOf (answered (hostAfter small room usedUp) (alone (stream 8 0 9))) ≡ 3
+  pub before : numberOf (answered (hostAfter Server small room []) (alone (stream 8 0 9))) ≡ 0
+  pub later : numberOf (answered (hostAfter Server small room usedUp) (alone (stream 8 0 9))) ≡ 3

@@ -3,6 +3,7 @@ use Prim.Native.Nat.{ℕ}
 use mathlib.Core.Path.{_≡_}
 use mathlib.Core.Bool.{true, false}
 use mathlib.Core.List.{List, [], _∷_, map}
+use Rattle.kinds.specs.declared.Role.the-variants.{Server}
 use Rattle.answers.specs.Answers.{numberOf}
 use Rattle.kinds.specs.declared.Kind.the-variants.{Initial, Handshake, ZeroRtt, OneRtt}
 use Rattle.numbers.specs.declared.Size.the-variants.{One, Two, Three, Four}
@@ -23,7 +24,7 @@ only5 = takenOf noneOf 5 .«record»
 
 -- the answers to some 1-RTT packets before their frames, each a first byte and the bytes after it, where 5 was recorded
 abbrev pub begun : List (ℕ × List ℕ) → List ℕ
-begun l = map (λ p. numberOf (inSpaceOf (openedConn small Open) only5 OneRtt (p .0) (p .1) .answer)) l
+begun l = map (λ p. numberOf (inSpaceOf (openedConn Server small Open) only5 OneRtt (p .0) (p .1) .answer)) l
 
 pub record Packets : Type 0 where
   -- "the plain first byte (it tells the kind)": long with bits 0x30, short; Retry and bit 0x40 clear are none

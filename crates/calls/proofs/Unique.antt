@@ -5,11 +5,16 @@ use Rattle.answers.specs.Firm.{Firm}
 use Rattle.answers.proofs.Firm.{equation}
 use Rattle.calls.proofs.place.Kinds as place
 use Rattle.calls.proofs.place.Reads as place-reads
-use Rattle.calls.proofs.judge.Kinds as judge
-use Rattle.calls.proofs.judge.Reads as judge-reads
+use Rattle.calls.proofs.seated.Kinds as seated
+use Rattle.calls.proofs.seated.Reads as seated-reads
+use Rattle.calls.proofs.reply.Kinds as reply
+use Rattle.calls.proofs.reply.Reads as reply-reads
 
 pub place-firm : Firm 0 place.ps place.r place-reads.Asked place-reads.Post
 place-firm = equation refl
 
-pub judge-firm : Firm 0 judge.ps judge.r judge-reads.Asked judge-reads.Post
-judge-firm = equation refl
+pub seated-firm : Firm 0 seated.ps seated.r seated-reads.Asked seated-reads.Post
+seated-firm = equation refl
+
+pub reply-firm : Firm 0 reply.ps reply.r reply-reads.Asked reply-reads.Post
+reply-firm = equation refl

@@ -1,15 +1,13 @@
-// The local calls (docs/RULES.md, "Local calls"): one enum, and what a call does to a connection and to ONE entry of its table,
-// by value. Handing out a packet number is none of them: it looks at neither the table nor the closing mark.
+// The local calls (docs/RULES.md, "Local calls"): one enum, the entry that a call looks at, and its answer on a connection and ONE
+// entry, by value. Handing out a packet number is none of them: it looks at neither the table nor the closing mark.
 ghost use mathlib.Core.Path.{_≡_};
-ghost use Rattle.halves.specs.Stream.{halfOf, placeOf};
+ghost use Rattle.halves.specs.Stream.{placeOf};
 ghost use Rattle.entries.specs.Entry.{isKnown};
-ghost use Rattle.streams.specs.Conn.{limitedTo, withCount};
-ghost use Rattle.calls.specs.Calls.{raiseOf, replyOf, nextOf, streamIn, settledOf, ruledOf, repliedOf};
+ghost use Rattle.calls.specs.Calls.{seatedCall, raiseOf, replyOf, streamIn};
 use answers::Answer;
 use entries::Entry;
 use entries::Final;
-use halves::Stream;
-use streams::Called;
+use kinds::Role;
 use streams::Conn;
 
 // A local call. A type is that on the wire.
@@ -20,18 +18,32 @@ pub enum Call {
     OpenNext { ty: u64 },
 }
 
-// What a call answers, with the entry after it.
-pub struct Replied {
-    pub called: Called,
-    pub entry: Entry,
+// A call with its stream or its type as at a server.
+pub fn seated(role: Role, call: Call) -> Call
+    ensures { λ r. ⌜ r ≡ seatedCall role call ⌝ }
+{
+    match call {
+        Call::RaiseCredit { new } => Call::RaiseCredit { new },
+        Call::RaiseStream { id, new } => Call::RaiseStream {
+            id: halves::seated(role, id),
+            new,
+        },
+        Call::RaiseCount { ty, new } => Call::RaiseCount {
+            ty: halves::seated(role, ty),
+            new,
+        },
+        Call::OpenNext { ty } => Call::OpenNext {
+            ty: halves::seated(role, ty),
+        },
+    }
 }
 
 // The place of the entry that a call looks at.
-pub fn place(call: Call) -> usize
-    ensures { λ r. ⌜ r ≡ placeOf (streamIn call) ⌝ }
+pub fn place(role: Role, call: Call) -> usize
+    ensures { λ r. ⌜ r ≡ placeOf (streamIn (seatedCall role call)) ⌝ }
 {
     match call {
-        Call::RaiseStream { id, new: _ } => halves::place_of(id),
+        Call::RaiseStream { id, new: _ } => halves::place_of(halves::seated(role, id)),
         Call::RaiseCredit { new: _ } => halves::place_of(0),
         Call::RaiseCount { ty: _, new: _ } => halves::place_of(0),
         Call::OpenNext { ty: _ } => halves::place_of(0),
@@ -91,19 +103,6 @@ fn raise_count(c: Conn, e: Entry, ty: u64, new: u64) -> Answer
     raise(c.count_of(ty), new, Conn::MOST_STREAMS)
 }
 
-// With another count of the peer's half.
-fn counted(c: Conn, ty: u64, new: u64) -> Conn
-    ensures { λ r. ⌜ r ≡ limitedTo c (withCount (c .limits) (halfOf ty) new) ⌝ }
-{
-    let s = halves::named(ty);
-    let i = s.half / 2;
-    let mut limits = c.limits;
-    limits.counts[i] = new;
-    let mut conn = c;
-    conn.limits = limits;
-    conn
-}
-
 // The answer to the opening of the next stream: only our own halves have one.
 fn open_next(c: Conn, e: Entry, ty: u64) -> Answer
     ensures { λ r. ⌜ r ≡ replyOf c e (Call.OpenNext ty) ⌝ }
@@ -121,84 +120,14 @@ fn open_next(c: Conn, e: Entry, ty: u64) -> Answer
     Answer::Accepted
 }
 
-// The ID of the next stream of a type.
-fn next_id(c: Conn, ty: u64) -> u64
-    ensures { λ r. ⌜ r ≡ nextOf c ty ⌝ }
-{
-    let s = halves::named(ty);
-    halves::id_of(Stream {
-        half: s.half,
-        ordinal: c.opened_of(ty),
-    })
-}
-
-// An answer that leaves the connection and the entry as given if it accepts, and else nothing changed.
-fn settled(answer: Answer, number: u64, c: Conn, e: Entry, conn: Conn, entry: Entry) -> Replied
-    ensures { λ r. ⌜ r ≡ settledOf answer number c e conn entry ⌝ }
-{
-    let Answer::Accepted = answer else {
-        return Replied {
-            called: Called {
-                answer,
-                number: 0,
-                conn: c,
-            },
-            entry: e,
-        };
-    };
-    Replied {
-        called: Called {
-            answer: Answer::Accepted,
-            number,
-            conn,
-        },
-        entry,
-    }
-}
-
-fn ruled(c: Conn, e: Entry, call: Call) -> Replied
-    ensures { λ r. ⌜ r ≡ ruledOf c e call ⌝ }
+// The answer to a call on an open connection, its stream or type as at a server: 104, then 105, 103, 102.
+pub fn reply(c: Conn, e: Entry, call: Call) -> Answer
+    ensures { λ r. ⌜ r ≡ replyOf c e call ⌝ }
 {
     match call {
-        Call::RaiseCredit { new } => {
-            let mut conn = c;
-            conn.limits.credit = new;
-            settled(
-                raise(c.limits.credit, new, Conn::MOST_CREDIT),
-                0,
-                c,
-                e,
-                conn,
-                e,
-            )
-        },
-        Call::RaiseStream { id, new } => {
-            let mut entry = e;
-            entry.credit = new;
-            settled(raise_stream(c, e, id, new), 0, c, e, c, entry)
-        },
-        Call::RaiseCount { ty, new } => settled(
-            raise_count(c, e, ty, new),
-            0,
-            c,
-            e,
-            counted(c, ty, new),
-            e,
-        ),
-        Call::OpenNext { ty } => {
-            let id = next_id(c, ty);
-            settled(open_next(c, e, ty), id, c, e, c.open_to(id, c.total), e)
-        },
+        Call::RaiseCredit { new } => raise(c.limits.credit, new, Conn::MOST_CREDIT),
+        Call::RaiseStream { id, new } => raise_stream(c, e, id, new),
+        Call::RaiseCount { ty, new } => raise_count(c, e, ty, new),
+        Call::OpenNext { ty } => open_next(c, e, ty),
     }
-}
-
-// A call on a connection whose table fits: 101, then 104, 105, 103, 102.
-pub fn judge(c: Conn, e: Entry, call: Call) -> Replied
-    ensures { λ r. ⌜ r ≡ repliedOf c e call ⌝ }
-{
-    let mark = c.mark;
-    if !mark.is_open() {
-        return settled(Answer::Closed, 0, c, e, c, e);
-    }
-    ruled(c, e, call)
 }

@@ -120,7 +120,7 @@ frame-back s at delay high low runs n o a h st e =
       first = high - low;
       count = length runs;
       place = p;
-      reads = λ kind m. fields-last s at kind (t .0) (eq-eqb (at + 1) (at + 1) refl) refl m ∙ fields-back s (at + 1) high delay (length runs) (high - low) (acks.rangesOf low runs) n r (omega arith) (rw d (ranges-back s n low p runs a b));
+      reads = λ role kind m. fields-last role s at kind (t .0) (eq-eqb (at + 1) (at + 1) refl) refl m ∙ fields-back s (at + 1) high delay (length runs) (high - low) (acks.rangesOf low runs) n r (omega arith) (rw d (ranges-back s n low p runs a b));
       counted = omega arith;
       walked = first-back s n high low p runs o a b;
     }

@@ -60,14 +60,14 @@ each-judged h rs first s =
     (λ a. record { each-accepted = λ before later x. not-empty before later x; one-refused = λ x later e. impossible cc; none-refused = λ e. refl })
 
 pub packet-verdicts : PacketVerdicts
-packet-verdicts o t xs rs first s w a =
-    let h = hostAfter o t xs in
+packet-verdicts role o t xs rs first s w a =
+    let h = hostAfter role o t xs in
     let r = framesIn h rs first s in
     let j = each-judged h rs first s in
-    let four = four-of o _ h (lifted o t w xs) in
+    let four = four-of role o _ h (lifted role o t w xs) in
     record {
-      accepted-own = λ before later at kind id end fin e n m. sym (demand3 o t (xs ++ before) w .verdict n s at kind id end fin m) ∙ ap (λ (y : State). answered y (TakeFrame s at kind)) (kept-then (hosted o t) xs before) ∙ j .each-accepted before later (TakeFrame s at kind) e;
+      accepted-own = λ before later at kind id end fin e n m. sym (demand3 role o t (xs ++ before) w .verdict n s at kind id end fin m) ∙ ap (λ (y : State). answered y (TakeFrame s at kind)) (kept-then (hosted role o t) xs before) ∙ j .each-accepted before later (TakeFrame s at kind) e;
       refused-own = λ at kind id end fin e n m.
-          is-frames h rs first s four a .answer ∙ sym (j .one-refused (TakeFrame s at kind) [] e) ∙ ap (λ (y : State). answered y (TakeFrame s at kind)) (sym (kept-then (hosted o t) xs (r .accepted)))
-          ∙ demand3 o t (xs ++ r .accepted) w .verdict n s at kind id end fin m;
+          is-frames h rs first s four a .answer ∙ sym (j .one-refused (TakeFrame s at kind) [] e) ∙ ap (λ (y : State). answered y (TakeFrame s at kind)) (sym (kept-then (hosted role o t) xs (r .accepted)))
+          ∙ demand3 role o t (xs ++ r .accepted) w .verdict n s at kind id end fin m;
     }

@@ -32,9 +32,11 @@ use Rattle.kinds.specs.Kinds.{spaceOf}
 use Rattle.verdicts.specs.Verdict.{settledOf}
 use Rattle.calls.specs.declared.Call.{Call}
 use Rattle.calls.specs.declared.Call.the-variants.{RaiseCredit, RaiseStream, RaiseCount, OpenNext}
-use Rattle.calls.specs.declared.Replied.{Replied}
+use Rattle.replies.specs.declared.Replied.{Replied}
 use Rattle.calls.specs.Calls as calls
-use Rattle.calls.specs.Calls.{raiseOf, peersType, oursType, replyOf, ruledOf, repliedOf}
+use Rattle.replies.specs.Replies as replies
+use Rattle.calls.specs.Calls.{raiseOf, peersType, oursType, replyOf}
+use Rattle.replies.specs.Replies.{ruledOf, repliedOf}
 use Rattle.answers.specs.Answers.{accepts}
 use Rattle.limits.specs.Fits.{fits}
 use Rattle.accounts.proofs.Tests.{not-both}
@@ -112,16 +114,16 @@ module _ (c : Conn) where
   RepliedFits r = Fitting (r .called .answer)
 
   replied-fits : (e : Entry) (k : Call) → RepliedFits (repliedOf c e k)
-  unfolding repliedOf ruledOf calls.settledOf
+  unfolding repliedOf ruledOf replies.settledOf
   replied-fits e k =
       holds RepliedFits (not (isOpen (c .mark))) _ _ (λ t. record { not-120 = refl }) (λ t.
-      holds RepliedFits (accepts (replyOf c e k)) _ _ (λ a. record { not-120 = refl }) (λ a. reply-fits e k))
+      holds RepliedFits (accepts (replyOf c e (calls.seatedCall (c .role) k))) _ _ (λ a. record { not-120 = refl }) (λ a. reply-fits e (calls.seatedCall (c .role) k)))
 
 -- ---- one frame, and the walk
 
 stepped-fits : (c : Conn) (t : List Entry) (s : List ℕ) (at : ℕ) (kind : Kind) → Fitting (steppedAt c t s at kind .answer)
 unfolding decidedAt requestAt
-stepped-fits c t s at kind = decided-with (record { conn = c; table = t }) kind at Fitting fitting-codes (frameAt s at kind) (refused-with Fitting (record { not-120 = refl }) (record { not-120 = refl }) s at kind)
+stepped-fits c t s at kind = decided-with (record { conn = c; table = t }) kind at Fitting fitting-codes (frameAt (c .role) s at kind) (refused-with Fitting (record { not-120 = refl }) (record { not-120 = refl }) (c .role) s at kind)
 
 abbrev StopFits : Walked → Type 0
 StopFits w = Fitting (w .stop .answer)
@@ -169,7 +171,7 @@ module _ (h : State) (f : fits (h .conn) (h .table) ≡ true) where
 
   call-fits : (k : Call) → Fitting (answered h (Make k))
   unfolding calledAt
-  call-fits k = holds CalledFits (fits (h .conn) (h .table)) _ _ (λ e. replied-fits (h .conn) (entryAt (h .table) (callPlace k)) k) (λ e. absurd (not-both _ f e))
+  call-fits k = holds CalledFits (fits (h .conn) (h .table)) _ _ (λ e. replied-fits (h .conn) (entryAt (h .table) (callPlace (h .conn) k)) k) (λ e. absurd (not-both _ f e))
 
   pub answer-fits : (x : Act) → Fitted x → Fitting (answered h x)
   answer-fits (TakeFrame s at kind) g = frame-fits s at kind

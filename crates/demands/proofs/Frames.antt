@@ -9,6 +9,7 @@ use lib.ListN.{set}
 use lib.Seq.{set-getD}
 use lib.Dec.{leb}
 use borrow.Author.Tests.{not-false}
+use Rattle.kinds.specs.declared.Role.{Role}
 use Rattle.answers.specs.Choice.{_⇒_∣_}
 use Rattle.answers.specs.Answers.{accepts}
 use Rattle.answers.specs.declared.Answer.{Answer}
@@ -30,7 +31,7 @@ use Rattle.frames.specs.declared.Frame.{Frame}
 use Rattle.kinds.specs.declared.Kind.{Kind}
 use Rattle.frames.specs.declared.Reading.{Reading}
 use Rattle.frames.specs.declared.Reading.the-variants.{Got, Refused}
-use Rattle.frames.specs.Admission.{admitted}
+use Rattle.admission.specs.Admission.{admitted}
 use Rattle.frames.specs.Fields.{frameOf, fieldsAt}
 use Rattle.frames.specs.Reading.{withHead, admittedHead, frameAt}
 use Rattle.frames.proofs.Codes.{codes}
@@ -81,22 +82,22 @@ abbrev pub IfRefused : (Answer → Type 0) → Reading → Type 0
 IfRefused P (Got frame ty next) = Unit
 IfRefused P (Refused answer ty) = P answer
 
-pub refused-with : (P : Answer → Type 0) → P FrameEncoding → P ProtocolViolation → (s : List ℕ) (at : ℕ) (kind : Kind) → IfRefused P (frameAt s at kind)
-refused-with P seven ten s at kind = go (frameAt s at kind) refl
+pub refused-with : (P : Answer → Type 0) → P FrameEncoding → P ProtocolViolation → (role : Role) (s : List ℕ) (at : ℕ) (kind : Kind) → IfRefused P (frameAt role s at kind)
+refused-with P seven ten role s at kind = go (frameAt role s at kind) refl
   where
     code : (answer : Answer) → (answer ≡ FrameEncoding) ⊎ (answer ≡ ProtocolViolation) → P answer
     code answer (inl e) = rw e seven
     code answer (inr e) = rw e ten
 
-    go : (r : Reading) → frameAt s at kind ≡ r → IfRefused P r
+    go : (r : Reading) → frameAt role s at kind ≡ r → IfRefused P r
     go (Got frame ty next) e = tt
-    go (Refused answer ty) e = code answer (codes s at kind e)
+    go (Refused answer ty) e = code answer (codes role s at kind e)
 
 -- it does not accept
 abbrev pub Refusing : Reading → Type 0
 Refusing r = IfRefused (λ answer. accepts answer ≡ false) r
 
-pub refusing : (s : List ℕ) (at : ℕ) (kind : Kind) → Refusing (frameAt s at kind)
+pub refusing : (role : Role) (s : List ℕ) (at : ℕ) (kind : Kind) → Refusing (frameAt role s at kind)
 refusing = refused-with (λ answer. accepts answer ≡ false) refl refl
 
 -- what holds of 0, 3, 4, 5, 6, 7 and 10 holds of every answer to a frame
@@ -145,35 +146,35 @@ module _ (P : Answer → Type 0) (k : Codes P) (c : Conn) where
 
 module _ (st : State) (kind : Kind) (at : ℕ) where
   abbrev pub decided : Reading → Decided
-  decided r = decidedOf (st .conn) (entryAt (st .table) (requestOf kind at r .place)) (requestOf kind at r)
+  decided r = decidedOf (st .conn) (entryAt (st .table) (requestOf (st .conn .role) kind at r .place)) (requestOf (st .conn .role) kind at r)
 
   abbrev pub left : Reading → State
-  left r = record { conn = decided r .stepped .conn; table = set (st .table) (requestOf kind at r .place) (decided r .entry) }
+  left r = record { conn = decided r .stepped .conn; table = set (st .table) (requestOf (st .conn .role) kind at r .place) (decided r .entry) }
 
   pub more-open : (r : Reading) → decided r .stepped .more ≡ isOpen (left r .conn .mark)
   unfolding decidedOf
-  more-open r = holds (λ (d : Decided). d .stepped .more ≡ isOpen (d .stepped .conn .mark)) (accepts (requestOf kind at r .answer)) _ _ (λ e. refl) (λ e. refl)
+  more-open r = holds (λ (d : Decided). d .stepped .more ≡ isOpen (d .stepped .conn .mark)) (accepts (requestOf (st .conn .role) kind at r .answer)) _ _ (λ e. refl) (λ e. refl)
 
   -- every answer to a frame is one of those codes
   pub decided-with : (P : Answer → Type 0) → Codes P → (r : Reading) → IfRefused P r → P (decided r .stepped .answer)
   unfolding decidedOf requestOf judgedOf settledOf
-  decided-with P k (Got frame ty next) f = holds (λ (j : Judged). P (j .answer)) (accepts (verdictOf (st .conn) (entryOf (st .table) (streamIn (viewOf kind frame))) (viewOf kind frame))) _ _ (λ e. k .accepted) (λ e. verdict-with P k (st .conn) _ (viewOf kind frame))
+  decided-with P k (Got frame ty next) f = holds (λ (j : Judged). P (j .answer)) (accepts (verdictOf (st .conn) (entryOf (st .table) (streamIn (viewOf (st .conn .role) kind frame))) (viewOf (st .conn .role) kind frame))) _ _ (λ e. k .accepted) (λ e. verdict-with P k (st .conn) _ (viewOf (st .conn .role) kind frame))
   decided-with P k (Refused answer ty) f = holds (λ (d : Decided). P (d .stepped .answer)) (accepts answer) _ _ (λ e. judged-none) (λ e. f)
     where
       judged-none : P (judgedOf (st .conn) (entryAt (st .table) 0) ty Nothing .answer)
       judged-none = holds (λ (j : Judged). P (j .answer)) (accepts (verdictOf (st .conn) (entryAt (st .table) 0) Nothing)) _ _ (λ e. k .accepted) (λ e. verdict-with P k (st .conn) _ Nothing)
 
   -- a refused frame closes, and all else is as it was
-  pub shuts : (r : Reading) → Refusing r → accepts (decided r .stepped .answer) ≡ false → left r ≡ closed st (decided r .stepped .answer) (requestOf kind at r .ty)
+  pub shuts : (r : Reading) → Refusing r → accepts (decided r .stepped .answer) ≡ false → left r ≡ closed st (decided r .stepped .answer) (requestOf (st .conn .role) kind at r .ty)
   unfolding decidedOf requestOf judgedOf settledOf
-  shuts (Got frame ty next) c = go (accepts (verdictOf (st .conn) e (viewOf kind frame))) refl
+  shuts (Got frame ty next) c = go (accepts (verdictOf (st .conn) e (viewOf (st .conn .role) kind frame))) refl
     where
       e : Entry
-      e = entryOf (st .table) (streamIn (viewOf kind frame))
+      e = entryOf (st .table) (streamIn (viewOf (st .conn .role) kind frame))
 
-      go : (b : Bool) → accepts (verdictOf (st .conn) e (viewOf kind frame)) ≡ b → accepts (decided (Got frame ty next) .stepped .answer) ≡ false → left (Got frame ty next) ≡ closed st (decided (Got frame ty next) .stepped .answer) ty
+      go : (b : Bool) → accepts (verdictOf (st .conn) e (viewOf (st .conn .role) kind frame)) ≡ b → accepts (decided (Got frame ty next) .stepped .answer) ≡ false → left (Got frame ty next) ≡ closed st (decided (Got frame ty next) .stepped .answer) ty
       go true d = rw d (λ f. impossible cc)
-      go false d = rw (d, same-table (st .table) (framePlace (viewOf kind frame))) (λ f. refl)
+      go false d = rw (d, same-table (st .table) (framePlace (viewOf (st .conn .role) kind frame))) (λ f. refl)
   shuts (Refused answer ty) c = rw (c, same-table (st .table) 0) (λ f. refl)
 
 -- ---- a connection that is open and whose table fits
@@ -190,18 +191,18 @@ ruled-answer h view v = rw (fits-test _ _ (v .fit), v .still-open) refl
 module _ (h : State) (v : Live h) (kind : Kind) (at : ℕ) where
   -- an accepted frame leaves the state after its event, whose table fits
   pub accepted-is : (r : Reading) → Refusing r → accepts (decided h kind at r .stepped .answer) ≡ true
-      → (answerOf h (Heard (requestOf kind at r .view)) ≡ Accepted) × (left h kind at r ≡ after h (Heard (requestOf kind at r .view)))
+      → (answerOf h (Heard (requestOf (h .conn .role) kind at r .view)) ≡ Accepted) × (left h kind at r ≡ after h (Heard (requestOf (h .conn .role) kind at r .view)))
   unfolding decidedOf requestOf judgedOf settledOf after connAfter entryAfter
-  accepted-is (Got frame ty next) c = go (accepts (verdictOf (h .conn) (entryOf (h .table) (streamIn (viewOf kind frame))) (viewOf kind frame))) refl
+  accepted-is (Got frame ty next) c = go (accepts (verdictOf (h .conn) (entryOf (h .table) (streamIn (viewOf (h .conn .role) kind frame))) (viewOf (h .conn .role) kind frame))) refl
     where
-      go : (b : Bool) → accepts (verdictOf (h .conn) (entryOf (h .table) (streamIn (viewOf kind frame))) (viewOf kind frame)) ≡ b → accepts (decided h kind at (Got frame ty next) .stepped .answer) ≡ true
-          → (answerOf h (Heard (viewOf kind frame)) ≡ Accepted) × (left h kind at (Got frame ty next) ≡ after h (Heard (viewOf kind frame)))
-      go true e = rw e (λ a. (ruled-answer h (viewOf kind frame) v ∙ accepts-true _ e, refl))
+      go : (b : Bool) → accepts (verdictOf (h .conn) (entryOf (h .table) (streamIn (viewOf (h .conn .role) kind frame))) (viewOf (h .conn .role) kind frame)) ≡ b → accepts (decided h kind at (Got frame ty next) .stepped .answer) ≡ true
+          → (answerOf h (Heard (viewOf (h .conn .role) kind frame)) ≡ Accepted) × (left h kind at (Got frame ty next) ≡ after h (Heard (viewOf (h .conn .role) kind frame)))
+      go true e = rw e (λ a. (ruled-answer h (viewOf (h .conn .role) kind frame) v ∙ accepts-true _ e, refl))
       go false e = rw e (λ a. impossible cc)
   accepted-is (Refused answer ty) c = rw c (λ a. impossible cc)
 
   pub accepted-fits : (r : Reading) → Refusing r → accepts (decided h kind at r .stepped .answer) ≡ true → Fits (left h kind at r .conn) (left h kind at r .table)
-  accepted-fits r c a = let w = accepted-is r c a in subst (λ (x : State). Fits (x .conn) (x .table)) (sym (w .1)) (step-fits h (Heard (requestOf kind at r .view)) (v .fit) (w .0))
+  accepted-fits r c a = let w = accepted-is r c a in subst (λ (x : State). Fits (x .conn) (x .table)) (sym (w .1)) (step-fits h (Heard (requestOf (h .conn .role) kind at r .view)) (v .fit) (w .0))
 
 -- ---- the call for it
 
@@ -224,17 +225,17 @@ gate-with P unfit closed fit mark =
 
 module _ (h : State) (s : List ℕ) (at : ℕ) (kind : Kind) where
   abbrev pub stepped : TookFrame
-  stepped = record { answer = decided h kind at (frameAt s at kind) .stepped .answer; shown = shownAt s at kind; conn = left h kind at (frameAt s at kind) .conn }
+  stepped = record { answer = decided h kind at (frameAt (h .conn .role) s at kind) .stepped .answer; shown = shownAt (h .conn .role) s at kind; conn = left h kind at (frameAt (h .conn .role) s at kind) .conn }
 
   pub took-is : gateAt (h .conn) (h .table) .passes ≡ true → tookFrameOf (h .conn) (h .table) s at kind ≡ stepped
   unfolding tookFrameOf decidedAt requestAt
   took-is p = holds (λ (x : TookFrame). x ≡ stepped) (gateAt (h .conn) (h .table) .passes) _ _ (λ g. refl) (λ g. absurd (not-both _ p g))
 
-  table-is : gateAt (h .conn) (h .table) .passes ≡ true → frameTable (h .conn) (h .table) s at kind ≡ left h kind at (frameAt s at kind) .table
+  table-is : gateAt (h .conn) (h .table) .passes ≡ true → frameTable (h .conn) (h .table) s at kind ≡ left h kind at (frameAt (h .conn .role) s at kind) .table
   unfolding frameTable decidedAt requestAt
-  table-is p = holds (λ (x : List Entry). x ≡ left h kind at (frameAt s at kind) .table) (gateAt (h .conn) (h .table) .passes) _ _ (λ g. refl) (λ g. absurd (not-both _ p g))
+  table-is p = holds (λ (x : List Entry). x ≡ left h kind at (frameAt (h .conn .role) s at kind) .table) (gateAt (h .conn) (h .table) .passes) _ _ (λ g. refl) (λ g. absurd (not-both _ p g))
 
-  pub left-is : gateAt (h .conn) (h .table) .passes ≡ true → acted h (TakeFrame s at kind) ≡ left h kind at (frameAt s at kind)
+  pub left-is : gateAt (h .conn) (h .table) .passes ≡ true → acted h (TakeFrame s at kind) ≡ left h kind at (frameAt (h .conn .role) s at kind)
   left-is p = λ j. record { conn = took-is p j .conn; table = table-is p j }
 
   -- what does not pass the gate is refused, and changes nothing
@@ -263,13 +264,13 @@ module _ (h : State) (v : Live h) (s : List ℕ) (at : ℕ) (kind : Kind) where
   gate : gateAt (h .conn) (h .table) .passes ≡ true
   gate = gate-open (fits (h .conn) (h .table)) (h .conn .mark) (fits-test _ _ (v .fit)) (v .still-open)
 
-  pub answer-is : answered h (TakeFrame s at kind) ≡ decided h kind at (frameAt s at kind) .stepped .answer
+  pub answer-is : answered h (TakeFrame s at kind) ≡ decided h kind at (frameAt (h .conn .role) s at kind) .stepped .answer
   answer-is = ap (λ (x : TookFrame). x .answer) (took-is h s at kind gate)
 
-  pub shown-is : shownBy h s at kind ≡ shownAt s at kind
+  pub shown-is : shownBy h s at kind ≡ shownAt (h .conn .role) s at kind
   shown-is = ap (λ (x : TookFrame). x .shown) (took-is h s at kind gate)
 
-  pub acted-is : acted h (TakeFrame s at kind) ≡ left h kind at (frameAt s at kind)
+  pub acted-is : acted h (TakeFrame s at kind) ≡ left h kind at (frameAt (h .conn .role) s at kind)
   acted-is = left-is h s at kind gate
 
 -- what is shown of a frame that was accepted is the frame as it was read: what it asked, and the place after it
@@ -277,17 +278,17 @@ pub record Whole (kind : Kind) (at : ℕ) (s : List ℕ) (h : State) : Type 0 wh
   pub frame : Frame
   pub ty : ℕ
   pub next : ℕ
-  pub reads : frameAt s at kind ≡ Got frame ty next
-  pub asks : asked kind (shownAt s at kind) ≡ viewOf kind frame ∷ []
-  pub follows : nextShown at (shownAt s at kind) ≡ next
-  pub goes : nextShown at (shownAt s at kind) ≡ decided h kind at (frameAt s at kind) .stepped .next
+  pub reads : frameAt (h .conn .role) s at kind ≡ Got frame ty next
+  pub asks : asked (h .conn .role) kind (shownAt (h .conn .role) s at kind) ≡ viewOf (h .conn .role) kind frame ∷ []
+  pub follows : nextShown at (shownAt (h .conn .role) s at kind) ≡ next
+  pub goes : nextShown at (shownAt (h .conn .role) s at kind) ≡ decided h kind at (frameAt (h .conn .role) s at kind) .stepped .next
 
-pub whole : (h : State) (s : List ℕ) (at : ℕ) (kind : Kind) → accepts (decided h kind at (frameAt s at kind) .stepped .answer) ≡ true → Whole kind at s h
+pub whole : (h : State) (s : List ℕ) (at : ℕ) (kind : Kind) → accepts (decided h kind at (frameAt (h .conn .role) s at kind) .stepped .answer) ≡ true → Whole kind at s h
 unfolding shownAt shownOf requestOf decidedOf
-whole h s at kind a = go (frameAt s at kind) refl (refusing s at kind) a
+whole h s at kind a = go (frameAt (h .conn .role) s at kind) refl (refusing (h .conn .role) s at kind) a
   where
-    go : (r : Reading) → frameAt s at kind ≡ r → Refusing r → accepts (decided h kind at r .stepped .answer) ≡ true → Whole kind at s h
-    go (Got frame ty next) e c = λ b. record { frame = frame; ty = ty; next = next; reads = e; asks = rw e refl; follows = rw e refl; goes = rw e (next-of (accepts (requestOf kind at (Got frame ty next) .answer))) }
+    go : (r : Reading) → frameAt (h .conn .role) s at kind ≡ r → Refusing r → accepts (decided h kind at r .stepped .answer) ≡ true → Whole kind at s h
+    go (Got frame ty next) e c = λ b. record { frame = frame; ty = ty; next = next; reads = e; asks = rw e refl; follows = rw e refl; goes = rw e (next-of (accepts (requestOf (h .conn .role) kind at (Got frame ty next) .answer))) }
       where
         next-of : (b : Bool) → next ≡ (b ⇒ decided h kind at (Got frame ty next) ∣ decided h kind at (Got frame ty next)) .stepped .next
         next-of true = refl
@@ -309,24 +310,24 @@ fields-type s at ty = go (partsAt s at ty)
     go (Fields'.Are parts next) = refl
     go Fields'.Wrong = refl
 
-reading-type : (s : List ℕ) (at : ℕ) (kind : Kind) → TypeIs (typeAt s at) (frameAt s at kind)
+reading-type : (role : Role) (s : List ℕ) (at : ℕ) (kind : Kind) → TypeIs (typeAt s at) (frameAt role s at kind)
 unfolding frameAt headAt
-reading-type s at kind = go (numberAt s at)
+reading-type role s at kind = go (numberAt s at)
   where
     body : Number → Head
     body n = withNumber n (Head'.Refused FrameEncoding 0) (λ ty next. not (shortest at ty next) ⇒ Head'.Refused ProtocolViolation ty ∣ not (known ty) ⇒ Head'.Refused FrameEncoding ty ∣ Head'.Type ty next)
 
-    go : (n : Number) → TypeIs (withNumber n 0 (λ ty next. ty)) (withHead (admittedHead kind (body n)) (λ ty next. fieldsAt s next ty))
+    go : (n : Number) → TypeIs (withNumber n 0 (λ ty next. ty)) (withHead (admittedHead role kind (body n)) (λ ty next. fieldsAt s next ty))
     go (Number'.Is ty next) =
-        holds (λ (x : Head). TypeIs ty (withHead (admittedHead kind x) (λ ty next. fieldsAt s next ty))) (not (shortest at ty next)) _ _ (λ e. refl) (λ e.
-        holds (λ (x : Head). TypeIs ty (withHead (admittedHead kind x) (λ ty next. fieldsAt s next ty))) (not (known ty)) _ _ (λ f. refl) (λ f.
-        holds (λ (x : Head). TypeIs ty (withHead x (λ ty next. fieldsAt s next ty))) (not (admitted kind ty)) _ _ (λ g. refl) (λ g. fields-type s next ty)))
+        holds (λ (x : Head). TypeIs ty (withHead (admittedHead role kind x) (λ ty next. fieldsAt s next ty))) (not (shortest at ty next)) _ _ (λ e. refl) (λ e.
+        holds (λ (x : Head). TypeIs ty (withHead (admittedHead role kind x) (λ ty next. fieldsAt s next ty))) (not (known ty)) _ _ (λ f. refl) (λ f.
+        holds (λ (x : Head). TypeIs ty (withHead x (λ ty next. fieldsAt s next ty))) (not (admitted role kind ty)) _ _ (λ g. refl) (λ g. fields-type s next ty)))
     go Number'.CutShort = refl
 
-pub type-is : (s : List ℕ) (at : ℕ) (kind : Kind) → requestOf kind at (frameAt s at kind) .ty ≡ typeAt s at
+pub type-is : (role : Role) (s : List ℕ) (at : ℕ) (kind : Kind) → requestOf role kind at (frameAt role s at kind) .ty ≡ typeAt s at
 unfolding requestOf
-type-is s at kind = go (frameAt s at kind) (reading-type s at kind)
+type-is role s at kind = go (frameAt role s at kind) (reading-type role s at kind)
   where
-    go : (r : Reading) → TypeIs (typeAt s at) r → requestOf kind at r .ty ≡ typeAt s at
+    go : (r : Reading) → TypeIs (typeAt s at) r → requestOf role kind at r .ty ≡ typeAt s at
     go (Got frame ty next) e = e
     go (Refused answer ty) e = e

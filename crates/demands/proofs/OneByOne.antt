@@ -38,6 +38,8 @@ use Rattle.walks.specs.Walk.{stopped, Walked, walkFrom, walkAll}
 use Rattle.single.specs.Single.{decidedAt, steppedAt, stepTable}
 use Rattle.receive.specs.Taking.{begunOf, tookOf, tookTable}
 use Rattle.single.specs.Single.{tookFrameOf}
+use Rattle.accounts.specs.History as accounts
+use Rattle.accounts.proofs.Seats.{role-stays}
 use Rattle.accounts.specs.History.{Event, State}
 use Rattle.accounts.specs.History.Event.{Got as Heard}
 use Rattle.accounts.proofs.Fits.{Fits, fits-facts}
@@ -50,7 +52,7 @@ use Rattle.demands.specs.Demand1.{leaves}
 use Rattle.demands.specs.Packets.{OneByOne, IsFrames, Enters, Entered}
 use Rattle.demands.proofs.Begins.{Begins, begins}
 use Rattle.demands.proofs.Begins.Begins.{goes, shuts as closing, stays}
-use Rattle.demands.proofs.Frames.{refusing, left, more-open, shuts, Live, accepted-fits, stepped, took-is, passed-gate, answer-is, acted-is, shown-is, Whole, whole}
+use Rattle.demands.proofs.Frames.{accepted-is, refusing, left, more-open, shuts, Live, accepted-fits, stepped, took-is, passed-gate, answer-is, acted-is, shown-is, Whole, whole}
 
 -- ---- the walk
 
@@ -81,18 +83,25 @@ module _ (h : State) (v : Live h) (s : List ℕ) (at : ℕ) (kind : Kind) where
 
   more-is : steppedAt (h .conn) (h .table) s at kind .more ≡ isOpen (acted h x .conn .mark)
   unfolding decidedAt requestAt
-  more-is = more-open h kind at (frameAt s at kind) ∙ ap (λ (y : State). isOpen (y .conn .mark)) (sym (acted-is h v s at kind))
+  more-is = more-open h kind at (frameAt (h .conn .role) s at kind) ∙ ap (λ (y : State). isOpen (y .conn .mark)) (sym (acted-is h v s at kind))
 
   -- a refused frame closes the connection
   pub refused-shut : accepts (answered h x) ≡ false → isOpen (acted h x .conn .mark) ≡ false
-  refused-shut e = ap (λ (y : State). isOpen (y .conn .mark)) (acted-is h v s at kind ∙ shuts h kind at (frameAt s at kind) (refusing s at kind) (ap accepts (sym (answer-is h v s at kind)) ∙ e))
+  refused-shut e = ap (λ (y : State). isOpen (y .conn .mark)) (acted-is h v s at kind ∙ shuts h kind at (frameAt (h .conn .role) s at kind) (refusing (h .conn .role) s at kind) (ap accepts (sym (answer-is h v s at kind)) ∙ e))
 
   -- an accepted one that leaves it open leaves a table that fits
   pub still-live : accepts (answered h x) ≡ true → isOpen (acted h x .conn .mark) ≡ true → Live (acted h x)
   still-live e o = record {
-    fit = subst (λ (y : State). Fits (y .conn) (y .table)) (sym (acted-is h v s at kind)) (accepted-fits h v kind at (frameAt s at kind) (refusing s at kind) (ap accepts (sym (answer-is h v s at kind)) ∙ e));
+    fit = subst (λ (y : State). Fits (y .conn) (y .table)) (sym (acted-is h v s at kind)) (accepted-fits h v kind at (frameAt (h .conn .role) s at kind) (refusing (h .conn .role) s at kind) (ap accepts (sym (answer-is h v s at kind)) ∙ e));
     still-open = o;
   }
+
+  -- and the role
+  pub same-role : accepts (answered h x) ≡ true → acted h x .conn .role ≡ h .conn .role
+  unfolding accounts.after
+  same-role e =
+      ap (λ (y : State). y .conn .role) (acted-is h v s at kind ∙ accepted-is h v kind at (frameAt (h .conn .role) s at kind) (refusing (h .conn .role) s at kind) (ap accepts (sym (answer-is h v s at kind)) ∙ e) .1)
+      ∙ role-stays (h .conn) _ _
 
   pub whole-is : accepts (answered h x) ≡ true → Whole kind at s h
   whole-is e = whole h s at kind (ap accepts (sym (answer-is h v s at kind)) ∙ e)
@@ -104,7 +113,7 @@ module _ (h : State) (v : Live h) (s : List ℕ) (at : ℕ) (kind : Kind) where
     abbrev taken : Run
     taken =
         not (accepts (answered h x)) ⇒ record { accepted = []; heard = []; refused = x ∷ []; answer = answered h x; place = at }
-        ∣ after x (asked kind (shownBy h s at kind)) (not (isOpen (acted h x .conn .mark)) ⇒ ended at ∣ run (acted h x) (nextShown at (shownBy h s at kind)))
+        ∣ after x (asked (h .conn .role) kind (shownBy h s at kind)) (not (isOpen (acted h x .conn .mark)) ⇒ ended at ∣ run (acted h x) (nextShown at (shownBy h s at kind)))
 
     abbrev walked : Walked
     walked = steppedAt (h .conn) (h .table) s at kind .more ⇒ goes-on walk ∣ stop-here
@@ -125,7 +134,7 @@ module _ (h : State) (v : Live h) (s : List ℕ) (at : ℕ) (kind : Kind) where
     unfolding kept
     step-same = go (accepts (answered h x)) refl (isOpen (acted h x .conn .mark)) refl
       where
-        onward : accepts (answered h x) ≡ true → isOpen (acted h x .conn .mark) ≡ true → Same h (after x (asked kind (shownBy h s at kind)) (run (acted h x) (nextShown at (shownBy h s at kind)))) (goes-on walk)
+        onward : accepts (answered h x) ≡ true → isOpen (acted h x .conn .mark) ≡ true → Same h (after x (asked (h .conn .role) kind (shownBy h s at kind)) (run (acted h x) (nextShown at (shownBy h s at kind)))) (goes-on walk)
         onward a o =
             let w = subst (λ (y : State). Same (acted h x) (run (acted h x) (nextShown at (shownBy h s at kind))) (walk y (steppedAt (h .conn) (h .table) s at kind .next))) (sym state-here)
             (subst (λ (n : ℕ). Same (acted h x) (run (acted h x) (nextShown at (shownBy h s at kind))) (walk (acted h x) n)) (sym (next-here a)) (same (acted h x) (still-live a o) (nextShown at (shownBy h s at kind)))) in
@@ -152,18 +161,18 @@ refusedAt h s at kind = record { accepted = []; heard = []; refused = TakeFrame 
 -- no frame; one that is refused; an accepted one that closes the connection; and an accepted one before others
 module _ (s : List ℕ) (kind : Kind) (P : State → ℕ → Run → Type 0) (none : (h : State) (at : ℕ) → P h at (ended at))
     (one : (h : State) (at : ℕ) → accepts (answered h (TakeFrame s at kind)) ≡ false → P h at (refusedAt h s at kind))
-    (last : (h : State) (at : ℕ) → accepts (answered h (TakeFrame s at kind)) ≡ true → P h at (after (TakeFrame s at kind) (asked kind (shownBy h s at kind)) (ended at)))
-    (more : (h : State) (at : ℕ) (r : Run) → accepts (answered h (TakeFrame s at kind)) ≡ true → P (acted h (TakeFrame s at kind)) (nextShown at (shownBy h s at kind)) r → P h at (after (TakeFrame s at kind) (asked kind (shownBy h s at kind)) r)) where
+    (last : (h : State) (at : ℕ) → accepts (answered h (TakeFrame s at kind)) ≡ true → P h at (after (TakeFrame s at kind) (asked (h .conn .role) kind (shownBy h s at kind)) (ended at)))
+    (more : (h : State) (at : ℕ) (r : Run) → accepts (answered h (TakeFrame s at kind)) ≡ true → P (acted h (TakeFrame s at kind)) (nextShown at (shownBy h s at kind)) r → P h at (after (TakeFrame s at kind) (asked (h .conn .role) kind (shownBy h s at kind)) r)) where
   pub by-frames : (k : ℕ) (h : State) (at : ℕ) → P h at (oneByOne k h s at kind)
   unfolding oneByOne
   by-frames zero h at = none h at
   by-frames (suc k) h at =
       let further = oneByOne k (acted h (TakeFrame s at kind)) s (nextShown at (shownBy h s at kind)) kind in
       let rest = not (isOpen (acted h (TakeFrame s at kind) .conn .mark)) ⇒ ended at ∣ further in
-      let taken = after (TakeFrame s at kind) (asked kind (shownBy h s at kind)) rest in
+      let taken = after (TakeFrame s at kind) (asked (h .conn .role) kind (shownBy h s at kind)) rest in
       holds (P h at) (leb (length s) at) (ended at) (not (accepts (answered h (TakeFrame s at kind))) ⇒ refusedAt h s at kind ∣ taken) (λ e. none h at) (λ e.
       holds (P h at) (not (accepts (answered h (TakeFrame s at kind)))) (refusedAt h s at kind) taken (λ a. one h at (not-true _ a)) (λ a.
-      holds (λ (r : Run). P h at (after (TakeFrame s at kind) (asked kind (shownBy h s at kind)) r)) (not (isOpen (acted h (TakeFrame s at kind) .conn .mark))) (ended at) further
+      holds (λ (r : Run). P h at (after (TakeFrame s at kind) (asked (h .conn .role) kind (shownBy h s at kind)) r)) (not (isOpen (acted h (TakeFrame s at kind) .conn .mark))) (ended at) further
       (λ o. last h at (not-false _ a)) (λ o. more h at further (not-false _ a) (by-frames k (acted h (TakeFrame s at kind)) (nextShown at (shownBy h s at kind))))))
 
 -- ---- the history
@@ -173,15 +182,15 @@ unfolding onto
 onto-then [] b l = refl
 onto-then (v ∷ a) b l = onto-then a b (Heard v ∷ l)
 
-noted-frame : (h : State) (s : List ℕ) (at : ℕ) (kind : Kind) (l : List Event) → accepts (answered h (TakeFrame s at kind)) ≡ true → onto (asked kind (shownBy h s at kind)) l ≡ noted h (TakeFrame s at kind) l
+noted-frame : (h : State) (s : List ℕ) (at : ℕ) (kind : Kind) (l : List Event) → accepts (answered h (TakeFrame s at kind)) ≡ true → onto (asked (h .conn .role) kind (shownBy h s at kind)) l ≡ noted h (TakeFrame s at kind) l
 noted-frame h s at kind l a = rw a refl
 
 heard-same : (s : List ℕ) (kind : Kind) (k : ℕ) (h : State) (at : ℕ) (l : List Event) → onto (oneByOne k h s at kind .heard) l ≡ heardAfter h (callsOf (oneByOne k h s at kind)) l
 unfolding heardAfter onto
 heard-same s kind =
     by-frames s kind (λ h at r. (l : List Event) → onto (r .heard) l ≡ heardAfter h (callsOf r) l) (λ h at l. refl) (λ h at a l. rw a refl)
-    (λ h at a l. onto-then (asked kind (shownBy h s at kind)) [] l ∙ noted-frame h s at kind l a)
-    (λ h at r a ih l. onto-then (asked kind (shownBy h s at kind)) (r .heard) l ∙ ih _ ∙ ap (λ (m : List Event). heardAfter (acted h (TakeFrame s at kind)) (callsOf r) m) (noted-frame h s at kind l a))
+    (λ h at a l. onto-then (asked (h .conn .role) kind (shownBy h s at kind)) [] l ∙ noted-frame h s at kind l a)
+    (λ h at r a ih l. onto-then (asked (h .conn .role) kind (shownBy h s at kind)) (r .heard) l ∙ ih _ ∙ ap (λ (m : List Event). heardAfter (acted h (TakeFrame s at kind)) (callsOf r) m) (noted-frame h s at kind l a))
 
 -- ---- the packet
 
@@ -209,7 +218,7 @@ module _ (h : State) (rs : Records) (first : ℕ) (s : List ℕ) (four : length 
   way = walkAll (begun .conn) (h .table) s (begun .at) (begun .kind)
 
   module _ (a : accepts (begun .answer) ≡ true) where
-    found : ((fits (h .conn) (h .table) && isOpen (h .conn .mark)) ≡ true) × (begun .conn ≡ h .conn)
+    pub found : ((fits (h .conn) (h .table) && isOpen (h .conn .mark)) ≡ true) × (begun .conn ≡ h .conn)
     found = begun-goes (h .conn) (length s) _ _ begun (begins (h .conn) rs (fits (h .conn) (h .table)) first s) a
 
     pub is-live : Live h
@@ -309,4 +318,4 @@ entered h s at kind l = record {
 }
   where
     enters-as : accepts (answered h (TakeFrame s at kind)) ≡ true → tookFrameOf (h .conn) (h .table) s at kind ≡ stepped h s at kind → Whole kind at s h → Enters h s at kind l
-    enters-as a t w = record { frame = w .frame; ty = w .ty; next = w .next; reads = w .reads; enters = rw a (ap (λ (x : TookFrame). onto (asked kind (x .shown)) l) t ∙ ap (λ (v : List View). onto v l) (w .asks)) }
+    enters-as a t w = record { frame = w .frame; ty = w .ty; next = w .next; reads = w .reads; enters = rw a (ap (λ (x : TookFrame). onto (asked (h .conn .role) kind (x .shown)) l) t ∙ ap (λ (v : List View). onto v l) (w .asks)) }

@@ -8,6 +8,7 @@ use mathlib.Core.List.{List}
 use native.Mathlib.Omega.{arith}
 use lib.Dec.{ltb}
 use lib.ListN.{length, set}
+use Rattle.kinds.specs.declared.Role.{Role}
 use Rattle.answers.specs.Choice.{_⇒_∣_}
 use Rattle.answers.specs.Answers.{accepts}
 use Rattle.answers.specs.declared.Answer.{Answer}
@@ -39,9 +40,11 @@ use Rattle.streams.specs.Conn.{isOpen, nextOf, handedOutOf}
 use Rattle.kinds.specs.Kinds.{spaceOf}
 use Rattle.opening.specs.Opening.{openingWhen, entriesOf}
 use Rattle.calls.specs.declared.Call.{Call}
-use Rattle.calls.specs.declared.Replied.{Replied}
+use Rattle.replies.specs.declared.Replied.{Replied}
 use Rattle.calls.specs.Calls as calls
-use Rattle.calls.specs.Calls.{replyOf, ruledOf, repliedOf}
+use Rattle.replies.specs.Replies as replies
+use Rattle.calls.specs.Calls.{replyOf}
+use Rattle.replies.specs.Replies.{ruledOf, repliedOf}
 use Rattle.limits.specs.Fits.{fits}
 use Rattle.spaces.specs.declared.Records.{Records}
 use Rattle.spaces.specs.Spaces.{recordedOf}
@@ -84,15 +87,15 @@ frame-left : (h : State) (s : List ℕ) (at : ℕ) (kind : Kind) → accepts (an
 frame-left h s at kind e = go (gateAt (h .conn) (h .table) .passes) refl
   where
     answer : Answer
-    answer = decided h kind at (frameAt s at kind) .stepped .answer
+    answer = decided h kind at (frameAt (h .conn .role) s at kind) .stepped .answer
 
     go : (b : Bool) → gateAt (h .conn) (h .table) .passes ≡ b → acted h (TakeFrame s at kind) ≡ leaves (answered h (TakeFrame s at kind)) (typeAt s at) h
     go true g =
         let t = ap (λ (x : TookFrame). x .answer) (took-is h s at kind g) in
         let refused = ap accepts (sym t) ∙ e in
-        let k = decided-with h kind at Closing closing-codes (frameAt s at kind) (refused-with Closing (λ d. refl) (λ d. refl) s at kind) refused in
-        left-is h s at kind g ∙ shuts h kind at (frameAt s at kind) (refusing s at kind) refused
-        ∙ ap (closed h answer) (type-is s at kind) ∙ leaves-shut h answer (typeAt s at) k ∙ ap (λ (x : Answer). leaves x (typeAt s at) h) (sym t)
+        let k = decided-with h kind at Closing closing-codes (frameAt (h .conn .role) s at kind) (refused-with Closing (λ d. refl) (λ d. refl) (h .conn .role) s at kind) refused in
+        left-is h s at kind g ∙ shuts h kind at (frameAt (h .conn .role) s at kind) (refusing (h .conn .role) s at kind) refused
+        ∙ ap (closed h answer) (type-is (h .conn .role) s at kind) ∙ leaves-shut h answer (typeAt s at) k ∙ ap (λ (x : Answer). leaves x (typeAt s at) h) (sym t)
     go false g =
         let b = barred h s at kind g in
         b .1 ∙ leaves-same h (gateAt (h .conn) (h .table) .answer) (typeAt s at) (gate-with (λ x. closes x ≡ false) refl refl (fits (h .conn) (h .table)) (h .conn .mark) g) ∙ ap (λ (x : Answer). leaves x (typeAt s at) h) (sym (b .0))
@@ -146,30 +149,30 @@ handed-left c space = holds (λ (x : Called). accepts (x .answer) ≡ false → 
 module _ (h : State) (k : Call) where
   -- a refused call leaves the connection and the entry
   abbrev Leaves : Replied → Type 0
-  Leaves r = accepts (r .called .answer) ≡ false → (r .called .conn ≡ h .conn) × (r .entry ≡ entryAt (h .table) (callPlace k))
+  Leaves r = accepts (r .called .answer) ≡ false → (r .called .conn ≡ h .conn) × (r .entry ≡ entryAt (h .table) (callPlace (h .conn) k))
 
-  replied-left : Leaves (repliedOf (h .conn) (entryAt (h .table) (callPlace k)) k)
-  unfolding repliedOf ruledOf calls.settledOf
+  replied-left : Leaves (repliedOf (h .conn) (entryAt (h .table) (callPlace (h .conn) k)) k)
+  unfolding repliedOf ruledOf replies.settledOf
   replied-left =
       holds Leaves (not (isOpen (h .conn .mark))) _ _ (λ g e. (refl, refl)) (λ g.
-      holds Leaves (accepts (replyOf (h .conn) (entryAt (h .table) (callPlace k)) k)) _ _ (λ a. none) (λ a e. (refl, refl)))
+      holds Leaves (accepts (replyOf (h .conn) (entryAt (h .table) (callPlace (h .conn) k)) (calls.seatedCall (h .conn .role) k))) _ _ (λ a. none) (λ a e. (refl, refl)))
 
   abbrev called : Bool → Replied → Called
   called fit r = fit ⇒ r .called ∣ record { answer = DoesNotFit; number = 0; conn = h .conn }
 
   -- the entry is set to itself
-  call-left : (fit : Bool) (r : Replied) → Leaves r → accepts (called fit r .answer) ≡ false → withBoth (called fit r .conn) (fit ⇒ set (h .table) (callPlace k) (r .entry) ∣ h .table) ≡ h
+  call-left : (fit : Bool) (r : Replied) → Leaves r → accepts (called fit r .answer) ≡ false → withBoth (called fit r .conn) (fit ⇒ set (h .table) (callPlace (h .conn) k) (r .entry) ∣ h .table) ≡ h
   call-left true r f e =
       let g = f e in
-      ap (λ (c : Conn). withBoth c (set (h .table) (callPlace k) (r .entry))) (g .0)
-      ∙ ap (λ (x : Entry). withBoth (h .conn) (set (h .table) (callPlace k) x)) (g .1) ∙ ap (withBoth (h .conn)) (same-table (h .table) (callPlace k))
+      ap (λ (c : Conn). withBoth c (set (h .table) (callPlace (h .conn) k) (r .entry))) (g .0)
+      ∙ ap (λ (x : Entry). withBoth (h .conn) (set (h .table) (callPlace (h .conn) k) x)) (g .1) ∙ ap (withBoth (h .conn)) (same-table (h .table) (callPlace (h .conn) k))
   call-left false r f e = refl
 
 -- ---- opening, recording, writing
 
-open-left : (t : List Entry) (o : Limits) → accepts (openingWhen (length t) o .answer) ≡ false → openedTable t o ≡ t
+open-left : (role : Role) (t : List Entry) (o : Limits) → accepts (openingWhen role (length t) o .answer) ≡ false → openedTable role t o ≡ t
 unfolding openedTable entriesOf filledTo
-open-left t o e = rw e refl
+open-left role t o e = rw e refl
 
 taken-left : (R : Record) (n : ℕ) → accepts (takenOf R n .answer) ≡ false → takenOf R n .«record» ≡ R
 taken-left R n e = taking.leaves R n (λ a. not-both _ (ap accepts a) e)
@@ -188,7 +191,7 @@ demand1 (OfHost h (TakeFrame s at kind)) four = frame-left h s at kind
 demand1 (OfHost h (TakePacket rs first s)) four = packet-left h rs first s four
 demand1 (OfHost h (Make k)) four = call-left h k (fits (h .conn) (h .table)) _ (replied-left h k)
 demand1 (OfHost h (HandOut space)) four = λ e. ap (withConn h) (handed-left (h .conn) space e)
-demand1 (Open t o) u = open-left t o
+demand1 (Open role t o) u = open-left role t o
 demand1 (RecordNumber R n) u = taken-left R n
 demand1 (WriteNumber v out at) u = written-left (numberDraft v) out at
 demand1 (WriteRow vs out at) u = written-left (rowDraft vs) out at

@@ -76,17 +76,18 @@ module _ {M : Type 1} (𝓤 : URA M) (H : Heap 𝓤) (A : Atoms 𝓤) (mem : Mem
     does = λ κs a x e p. (ap (λ (y : Took). y .answer) (p .0), ap (λ (y : Took). y .place) (p .0), ap (λ (y : Took). y .records) (p .0), λ j. withBoth (p .0 j .conn) (p .1 j));
   }
 
-  -- tables::open(t, limits)
+  -- tables::open(t, role, limits)
   abbrev pub WasOpened : Told opening.ended
   WasOpened κs a x e =
       let t = now (a .0) in
-      let o = a .1 .0 in
-      (x .answer ≡ openingWhen (length t) o .answer) × (withBoth (x .conn) (now (e .0)) ≡ hosted o t)
+      let role = a .1 .0 in
+      let o = a .1 .1 .0 in
+      (x .answer ≡ openingWhen role (length t) o .answer) × (withBoth (x .conn) (now (e .0)) ≡ hosted role o t)
 
   pub open-tied : Ties 𝓤 opening.ended (opening.clauses 𝓤 H A mem run) WasOpened
   unfolding hosted
   open-tied = record {
-    told = λ κs a x e. (x ≡ openingWhen (length (now (a .0))) (a .1 .0)) × (now (e .0) ≡ openedTable (now (a .0)) (a .1 .0));
+    told = λ κs a x e. (x ≡ openingWhen (a .1 .0) (length (now (a .0))) (a .1 .1 .0)) × (now (e .0) ≡ openedTable (a .1 .0) (now (a .0)) (a .1 .1 .0));
     a-fact = λ κs a g x e. refl;
     does = λ κs a x e p. (ap (λ (y : Opened). y .answer) (p .0), λ j. withBoth (p .0 j .conn) (p .1 j));
   }

@@ -4,12 +4,13 @@ use mathlib.Core.Path.{_≡_}
 use mathlib.Core.Bool.{true}
 use mathlib.Core.List.{List, [], _∷_}
 use lib.ListN.{length}
+use Rattle.kinds.specs.declared.Role.{Role}
 use Rattle.wire.specs.Writing.{writes}
 use Rattle.wire.specs.declared.Wrote.the-variants.{To}
 use Rattle.ranges.specs.Walk.{firstOf, stepOf}
 use Rattle.ranges.specs.declared.Step.{Step}
 use Rattle.ranges.specs.declared.Step.the-variants.{Next, End}
-use Rattle.frames.specs.Admission.{admitted}
+use Rattle.admission.specs.Admission.{admitted}
 use Rattle.frames.specs.Reading.{frameAt}
 use Rattle.kinds.specs.declared.Kind.{Kind}
 use Rattle.frames.specs.declared.Frame.the-variants.{Ack}
@@ -27,13 +28,13 @@ found s zero x = []
 found s (suc n) (Next high low rest) = Span high low ∷ found s n (stepOf s rest)
 found s (suc n) End = []
 
--- out holds an ACK frame from a place on and up to n: in whatever kind of packet that admits ACK it stands, the reader finds it, with this delay, and its ranges, walked down to their end, are just these runs
+-- out holds an ACK frame from a place on and up to n: at either end, in whatever kind of packet that admits ACK it stands, the reader finds it, with this delay, and its ranges, walked down to their end, are just these runs
 pub record Acknowledges (out : List ℕ) (at n delay : ℕ) (runs : List Run) : Type 0 where
   pub largest : ℕ
   pub first : ℕ
   pub count : ℕ
   pub place : ℕ
-  pub reads : (kind : Kind) → admitted kind 2 ≡ true → frameAt out at kind ≡ Got (Ack largest delay count first place) 2 n
+  pub reads : (role : Role) (kind : Kind) → admitted role kind 2 ≡ true → frameAt role out at kind ≡ Got (Ack largest delay count first place) 2 n
   pub counted : count + 1 ≡ length runs
   pub walked : (k : ℕ) → length runs ≤ k → found out k (firstOf largest first count place) ≡ runs
 

@@ -5,6 +5,7 @@ use mathlib.Core.Bool.{Bool, false, _||_}
 use mathlib.Core.List.{List}
 use lib.ListN.{length}
 use lib.Dec.{eqb}
+use Rattle.kinds.specs.declared.Role.{Role}
 use Rattle.answers.specs.Choice.{_⇒_∣_}
 use Rattle.answers.specs.Answers.{numberOf, accepts}
 use Rattle.answers.specs.declared.Answer.{Answer}
@@ -34,7 +35,7 @@ use Rattle.demands.specs.Heard.{framesIn}
 -- the public calls that can refuse, each with all that is handed in: a host's, opening, a number recorded, and the writers
 pub data Asked : Type 0 where
   OfHost : State → Act → Asked
-  Open : List Entry → Limits → Asked
+  Open : Role → List Entry → Limits → Asked
   RecordNumber : Record → ℕ → Asked
   WriteNumber : ℕ → List ℕ → ℕ → Asked
   WriteRow : List ℕ → List ℕ → ℕ → Asked
@@ -47,7 +48,7 @@ wroteAnswer (Wrote'.Refused answer) = answer
 
 abbrev pub answerTo : Asked → Answer
 answerTo (OfHost h x) = answered h x
-answerTo (Open t o) = openingWhen (length t) o .answer
+answerTo (Open role t o) = openingWhen role (length t) o .answer
 answerTo (RecordNumber R n) = takenOf R n .answer
 answerTo (WriteNumber v out at) = wroteAnswer (writes (numberDraft v) out at .0)
 answerTo (WriteRow vs out at) = wroteAnswer (writes (rowDraft vs) out at .0)
@@ -78,7 +79,7 @@ Left (OfHost h (TakePacket rs first s)) =
     × (recordsAfter h rs first s ≡ rs)
 Left (OfHost h (Make call)) = acted h (Make call) ≡ h
 Left (OfHost h (HandOut space)) = acted h (HandOut space) ≡ h
-Left (Open t o) = openedTable t o ≡ t
+Left (Open role t o) = openedTable role t o ≡ t
 Left (RecordNumber R n) = takenOf R n .«record» ≡ R
 Left (WriteNumber v out at) = writes (numberDraft v) out at .1 ≡ out
 Left (WriteRow vs out at) = writes (rowDraft vs) out at .1 ≡ out
@@ -88,7 +89,7 @@ Left (Acknowledge R delay out at) = writes (ackDraft R delay) out at .1 ≡ out
 -- what is handed in is a value of its type: a connection has four numbers of what is open
 abbrev pub Typed : Asked → Type 0
 Typed (OfHost h x) = length (h .conn .opened) ≡ 4
-Typed (Open t o) = Unit
+Typed (Open role t o) = Unit
 Typed (RecordNumber R n) = Unit
 Typed (WriteNumber v out at) = Unit
 Typed (WriteRow vs out at) = Unit

@@ -3,6 +3,7 @@ use Prim.Native.Nat.{ℕ}
 use mathlib.Core.Path.{_≡_}
 use mathlib.Core.Bool.{Bool, true}
 use mathlib.Core.List.{List, [], _∷_, _++_}
+use Rattle.kinds.specs.declared.Role.{Role}
 use Rattle.answers.specs.Answers.{accepts}
 use Rattle.answers.specs.declared.Answer.{Answer}
 use Rattle.answers.specs.declared.Answer.the-variants.{Accepted}
@@ -26,17 +27,17 @@ pub record EachJudged (h : State) (r : Run) : Type 0 where
   pub none-refused : r .refused ≡ [] → r .answer ≡ Accepted
 
 -- rules 1 to 4 by the frame, its stream's own accepted frames, its credit and the stream count for its type, after a list of calls
-abbrev pub rulingAfter : Limits → List Entry → List Act → ℕ → ℕ → Bool → Answer
-rulingAfter o t xs id end fin = ruling (countBy o (heardBy o t xs) (halfOf id)) (streamCreditBy o (heardBy o t xs) id) (own (heardBy o t xs) id) id end fin
+abbrev pub rulingAfter : Role → Limits → List Entry → List Act → ℕ → ℕ → Bool → Answer
+rulingAfter role o t xs id end fin = ruling (countBy o (heardBy role o t xs) (halfOf id)) (streamCreditBy o (heardBy role o t xs) id) (own (heardBy role o t xs) id) id end fin
 
 -- of a packet that passes its header, after whatever calls: where there is enough credit for all when a STREAM or RESET_STREAM frame of it comes, that frame is accepted exactly by this ruling, and a refused one gives the packet its answer
-pub record FrameVerdicts (o : Limits) (t : List Entry) (xs : List Act) (rs : Records) (first : ℕ) (s : List ℕ) : Type 0 where
-  pub accepted-own : (before later : List Act) (at : ℕ) (kind : Kind) (id end : ℕ) (fin : Bool) → framesIn (hostAfter o t xs) rs first s .accepted ≡ before ++ (TakeFrame s at kind ∷ later)
-      → Enough o t (xs ++ before) → Names s at kind id end fin → rulingAfter o t (xs ++ before) id end fin ≡ Accepted
-  pub refused-own : (at : ℕ) (kind : Kind) (id end : ℕ) (fin : Bool) → framesIn (hostAfter o t xs) rs first s .refused ≡ TakeFrame s at kind ∷ []
-      → Enough o t (xs ++ framesIn (hostAfter o t xs) rs first s .accepted) → Names s at kind id end fin
-      → answered (hostAfter o t xs) (TakePacket rs first s) ≡ rulingAfter o t (xs ++ framesIn (hostAfter o t xs) rs first s .accepted) id end fin
+pub record FrameVerdicts (role : Role) (o : Limits) (t : List Entry) (xs : List Act) (rs : Records) (first : ℕ) (s : List ℕ) : Type 0 where
+  pub accepted-own : (before later : List Act) (at : ℕ) (kind : Kind) (id end : ℕ) (fin : Bool) → framesIn (hostAfter role o t xs) rs first s .accepted ≡ before ++ (TakeFrame s at kind ∷ later)
+      → Enough role o t (xs ++ before) → Names role s at kind id end fin → rulingAfter role o t (xs ++ before) id end fin ≡ Accepted
+  pub refused-own : (at : ℕ) (kind : Kind) (id end : ℕ) (fin : Bool) → framesIn (hostAfter role o t xs) rs first s .refused ≡ TakeFrame s at kind ∷ []
+      → Enough role o t (xs ++ framesIn (hostAfter role o t xs) rs first s .accepted) → Names role s at kind id end fin
+      → answered (hostAfter role o t xs) (TakePacket rs first s) ≡ rulingAfter role o t (xs ++ framesIn (hostAfter role o t xs) rs first s .accepted) id end fin
 
 abbrev pub PacketVerdicts : Type 0
-PacketVerdicts = (o : Limits) (t : List Entry) (xs : List Act) (rs : Records) (first : ℕ) (s : List ℕ) → WasHosted o t
-    → accepts (begunOf (hostAfter o t xs .conn) rs (hostAfter o t xs .table) first s .answer) ≡ true → FrameVerdicts o t xs rs first s
+PacketVerdicts = (role : Role) (o : Limits) (t : List Entry) (xs : List Act) (rs : Records) (first : ℕ) (s : List ℕ) → WasHosted role o t
+    → accepts (begunOf (hostAfter role o t xs .conn) rs (hostAfter role o t xs .table) first s .answer) ≡ true → FrameVerdicts role o t xs rs first s

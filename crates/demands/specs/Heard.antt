@@ -4,6 +4,7 @@ use mathlib.Core.Bool.{not}
 use mathlib.Core.List.{List, [], _∷_, _++_}
 use lib.ListN.{length}
 use lib.Dec.{leb}
+use Rattle.kinds.specs.declared.Role.{Role}
 use Rattle.answers.specs.Choice.{_⇒_∣_}
 use Rattle.answers.specs.Answers.{accepts}
 use Rattle.answers.specs.declared.Answer.{Answer}
@@ -18,6 +19,7 @@ use Rattle.streams.specs.declared.Limits.{Limits}
 use Rattle.streams.specs.Conn.{isOpen}
 use Rattle.rules.specs.declared.View.{View}
 use Rattle.views.specs.View.{viewOf}
+use Rattle.calls.specs.Calls.{seatedCall}
 use Rattle.packets.specs.declared.Begun.{Begun}
 use Rattle.spaces.specs.declared.Records.{Records}
 use Rattle.steps.specs.declared.Shown.{Shown}
@@ -36,10 +38,10 @@ abbrev pub shownBy : State → List ℕ → ℕ → Kind → Shown
 shownBy h s at kind = tookFrameOf (h .conn) (h .table) s at kind .shown
 
 -- what a frame that was shown whole asked of the streams, and the place after it
-abbrev pub asked : Kind → Shown → List View
-asked kind Shown'.Nothing = []
-asked kind (Shown'.Typed ty) = []
-asked kind (Shown'.Whole frame ty next) = viewOf kind frame ∷ []
+abbrev pub asked : Role → Kind → Shown → List View
+asked role kind Shown'.Nothing = []
+asked role kind (Shown'.Typed ty) = []
+asked role kind (Shown'.Whole frame ty next) = viewOf role kind frame ∷ []
 
 abbrev pub nextShown : ℕ → Shown → ℕ
 nextShown at Shown'.Nothing = at
@@ -66,7 +68,7 @@ oneByOne zero h s at kind = ended at
 oneByOne (suc k) h s at kind =
     leb (length s) at ⇒ ended at
     ∣ not (accepts (answered h (TakeFrame s at kind))) ⇒ record { accepted = []; heard = []; refused = TakeFrame s at kind ∷ []; answer = answered h (TakeFrame s at kind); place = at }
-    ∣ after (TakeFrame s at kind) (asked kind (shownBy h s at kind)) (
+    ∣ after (TakeFrame s at kind) (asked (h .conn .role) kind (shownBy h s at kind)) (
     not (isOpen (acted h (TakeFrame s at kind) .conn .mark)) ⇒ ended at
     ∣ oneByOne k (acted h (TakeFrame s at kind)) s (nextShown at (shownBy h s at kind)) kind)
 
@@ -80,7 +82,7 @@ framesIn h rs first s =
 abbrev pub callsOf : Run → List Act
 callsOf r = r .accepted ++ r .refused
 
--- ---- histories
+-- ---- histories: streams and types as at a server, whichever end the host is
 
 -- what some frames asked, put on top of a history
 unfoldable pub onto : List View → List Event → List Event
@@ -90,11 +92,11 @@ onto (v ∷ vs) l = onto vs (Heard v ∷ l)
 -- what a call adds to a history: itself, where it was accepted; a packet those of its frames that were
 abbrev pub noted : State → Act → List Event → List Event
 noted h (TakeFrame s at kind) l =
-    accepts (answered h (TakeFrame s at kind)) ⇒ onto (asked kind (shownBy h s at kind)) l
+    accepts (answered h (TakeFrame s at kind)) ⇒ onto (asked (h .conn .role) kind (shownBy h s at kind)) l
     ∣ l
 noted h (TakePacket rs first s) l = onto (framesIn h rs first s .heard) l
 noted h (Make call) l =
-    accepts (answered h (Make call)) ⇒ Did call ∷ l
+    accepts (answered h (Make call)) ⇒ Did (seatedCall (h .conn .role) call) ∷ l
     ∣ l
 noted h (HandOut space) l =
     accepts (answered h (HandOut space)) ⇒ Gave space ∷ l
@@ -105,8 +107,8 @@ heardAfter h [] l = l
 heardAfter h (x ∷ xs) l = heardAfter (acted h x) xs (noted h x l)
 
 -- the frames and calls that were accepted since opening, the latest first
-abbrev pub heardBy : Limits → List Entry → List Act → List Event
-heardBy o t xs = heardAfter (hosted o t) xs []
+abbrev pub heardBy : Role → Limits → List Entry → List Act → List Event
+heardBy role o t xs = heardAfter (hosted role o t) xs []
 
 -- ---- the frames of a payload, whether or not they are accepted
 
@@ -116,12 +118,12 @@ withFrame (Got frame ty next) x k = k frame next
 withFrame (Refused answer ty) x k = x
 
 -- what the frames from a place on ask, k at most
-unfoldable pub framesFrom : ℕ → List ℕ → ℕ → Kind → List View
-framesFrom zero s at kind = []
-framesFrom (suc k) s at kind =
+unfoldable pub framesFrom : Role → ℕ → List ℕ → ℕ → Kind → List View
+framesFrom role zero s at kind = []
+framesFrom role (suc k) s at kind =
     leb (length s) at ⇒ []
-    ∣ withFrame (frameAt s at kind) [] (λ frame next. viewOf kind frame ∷ framesFrom k s next kind)
+    ∣ withFrame (frameAt role s at kind) [] (λ frame next. viewOf role kind frame ∷ framesFrom role k s next kind)
 
 -- the frames of a packet; one that is refused before them has none
 abbrev pub framesOf : Begun → List ℕ → List View
-framesOf begun s = framesFrom (length s - begun .at) s (begun .at) (begun .kind)
+framesOf begun s = framesFrom (begun .conn .role) (length s - begun .at) s (begun .at) (begun .kind)

@@ -4,6 +4,7 @@ use Prim.Native.Nat.{ℕ}
 use mathlib.Core.Path.{_≡_}
 use mathlib.Core.List.{List, [], _∷_}
 use lib.ListN.{length}
+use Rattle.kinds.specs.declared.Role.{Role}
 use Rattle.answers.specs.declared.Answer.{Answer}
 use Rattle.answers.specs.declared.Answer.the-variants.{Accepted}
 use Rattle.kinds.specs.declared.Kind.{Kind}
@@ -68,15 +69,15 @@ unfoldable pub kept : State → List Act → State
 kept h [] = h
 kept h (x ∷ xs) = kept (acted h x) xs
 
--- opening with the limits o on a table t was accepted; o has two counts, as its type says
-pub record WasHosted (o : Limits) (t : List Entry) : Type 0 where
-  pub accepted : openingWhen (length t) o .answer ≡ Accepted
+-- opening with the limits o on a table t, as an end of this role, was accepted; o has two counts, as its type says
+pub record WasHosted (role : Role) (o : Limits) (t : List Entry) : Type 0 where
+  pub accepted : openingWhen role (length t) o .answer ≡ Accepted
   pub two : length (o .counts) ≡ 2
 
 -- what the host keeps then
-unfoldable pub hosted : Limits → List Entry → State
-hosted o t = record { conn = openingWhen (length t) o .conn; table = openedTable t o }
+unfoldable pub hosted : Role → Limits → List Entry → State
+hosted role o t = record { conn = openingWhen role (length t) o .conn; table = openedTable role t o }
 
 -- what the host keeps after the calls xs on a connection that was opened with o
-abbrev pub hostAfter : Limits → List Entry → List Act → State
-hostAfter o t xs = kept (hosted o t) xs
+abbrev pub hostAfter : Role → Limits → List Entry → List Act → State
+hostAfter role o t xs = kept (hosted role o t) xs

@@ -5,6 +5,7 @@ use mathlib.Core.Path.{_≡_}
 use mathlib.Core.Bool.{true, false}
 use mathlib.Core.List.{List, [], _∷_, _++_}
 use lib.ListN.{length}
+use Rattle.kinds.specs.declared.Role.{Role}
 use Rattle.answers.specs.Choice.{_⇒_∣_}
 use Rattle.answers.specs.Answers.{accepts}
 use Rattle.kinds.specs.declared.Kind.{Kind}
@@ -42,8 +43,8 @@ pub record Enters (h : State) (s : List ℕ) (at : ℕ) (kind : Kind) (l : List 
   pub frame : Frame
   pub ty : ℕ
   pub next : ℕ
-  pub reads : frameAt s at kind ≡ Got frame ty next
-  pub enters : noted h (TakeFrame s at kind) l ≡ Heard (viewOf kind frame) ∷ l
+  pub reads : frameAt (h .conn .role) s at kind ≡ Got frame ty next
+  pub enters : noted h (TakeFrame s at kind) l ≡ Heard (viewOf (h .conn .role) kind frame) ∷ l
 
 pub record Entered (h : State) (s : List ℕ) (at : ℕ) (kind : Kind) (l : List Event) : Type 0 where
   pub if-accepted : accepts (answered h (TakeFrame s at kind)) ≡ true → Enters h s at kind l
@@ -51,5 +52,5 @@ pub record Entered (h : State) (s : List ℕ) (at : ℕ) (kind : Kind) (l : List
 
 -- "over all accepted frames": a packet that leaves the connection open had every one of its frames accepted, and all of them are in the history; none is waved through
 abbrev pub NoneWaved : Type 0
-NoneWaved = (o : Limits) (t : List Entry) (xs : List Act) (rs : Records) (first : ℕ) (s : List ℕ) → WasHosted o t → hostAfter o t (xs ++ TakePacket rs first s ∷ []) .conn .mark ≡ Open
-    → heardBy o t (xs ++ TakePacket rs first s ∷ []) ≡ onto (framesOf (begunOf (hostAfter o t xs .conn) rs (hostAfter o t xs .table) first s) s) (heardBy o t xs)
+NoneWaved = (role : Role) (o : Limits) (t : List Entry) (xs : List Act) (rs : Records) (first : ℕ) (s : List ℕ) → WasHosted role o t → hostAfter role o t (xs ++ TakePacket rs first s ∷ []) .conn .mark ≡ Open
+    → heardBy role o t (xs ++ TakePacket rs first s ∷ []) ≡ onto (framesOf (begunOf (hostAfter role o t xs .conn) rs (hostAfter role o t xs .table) first s) s) (heardBy role o t xs)

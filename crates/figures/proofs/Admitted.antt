@@ -9,7 +9,7 @@ use Rattle.fields.specs.Faults.{aboveOf, tooMany, misissuedOf, faultOf}
 use Rattle.fields.specs.Parts.{endedAt, partsAt}
 use Rattle.fields.specs.Heads.{headAt}
 use Rattle.frames.specs.Fields.{frameOf, fieldsAt}
-use Rattle.frames.specs.Admission.{admitted}
+use Rattle.admission.specs.Admission.{admitted}
 use Rattle.frames.specs.Reading.{frameAt, anyFrameAt}
 use Rattle.figures.specs.Admitted.{Admitted}
 

@@ -3,3 +3,4 @@ pub mod Faults
 pub mod Admitted
 pub mod ByKind
 pub mod Same
+pub mod AtClient

@@ -2,3 +2,4 @@ pub mod Figures
 pub mod Faults
 pub mod Admitted
 pub mod ByKind
+pub mod AtClient

@@ -13,10 +13,11 @@ use Rattle.wire.proofs.Sound as number
 use Rattle.layouts.specs.Layout.{known}
 use Rattle.fields.specs.Parts.{partsAt}
 use Rattle.frames.specs.Fields.{fieldsAt}
-use Rattle.frames.specs.Admission.{admitted}
+use Rattle.admission.specs.Admission.{admitted}
 use Rattle.fields.specs.Heads.{headAt}
 use Rattle.frames.specs.Reading.{admittedHead, frameAt}
 use Rattle.kinds.specs.declared.Kind.{Kind}
+use Rattle.kinds.specs.declared.Role.{Role}
 use Rattle.fields.specs.declared.Head.{Head}
 use Rattle.fields.specs.declared.Head.the-variants as Head'
 use Rattle.frames.specs.declared.Reading.{Reading}
@@ -47,15 +48,15 @@ fields-codes : (s : List ℕ) (at ty : ℕ) → Coded (fieldsAt s at ty)
 unfolding fieldsAt
 fields-codes s at ty = with-fields Coded (partsAt s at ty) (Refused FrameEncoding ty) _ (inl refl) (λ p next e. tt)
 
-admitted-codes : (kind : Kind) (h : Head) → HeadCoded h → HeadCoded (admittedHead kind h)
-admitted-codes kind (Head'.Type ty next) c = holds HeadCoded (not (admitted kind ty)) (Head'.Refused ProtocolViolation ty) _ (λ t. inr refl) (λ t. tt)
-admitted-codes kind (Head'.Refused answer ty) c = c
+admitted-codes : (role : Role) (kind : Kind) (h : Head) → HeadCoded h → HeadCoded (admittedHead role kind h)
+admitted-codes role kind (Head'.Type ty next) c = holds HeadCoded (not (admitted role kind ty)) (Head'.Refused ProtocolViolation ty) _ (λ t. inr refl) (λ t. tt)
+admitted-codes role kind (Head'.Refused answer ty) c = c
 
-frame-codes : (s : List ℕ) (at : ℕ) (kind : Kind) → Coded (frameAt s at kind)
+frame-codes : (role : Role) (s : List ℕ) (at : ℕ) (kind : Kind) → Coded (frameAt role s at kind)
 unfolding frameAt
-frame-codes s at kind =
-    with-head Coded (admittedHead kind (headAt s at)) _ (λ answer ty e. subst HeadCoded e (admitted-codes kind (headAt s at) (head-codes s at)))
+frame-codes role s at kind =
+    with-head Coded (admittedHead role kind (headAt s at)) _ (λ answer ty e. subst HeadCoded e (admitted-codes role kind (headAt s at) (head-codes s at)))
     (λ ty next e. fields-codes s next ty)
 
-pub codes : (s : List ℕ) (at : ℕ) (kind : Kind) {answer : Answer} {ty : ℕ} → frameAt s at kind ≡ Refused answer ty → (answer ≡ FrameEncoding) ⊎ (answer ≡ ProtocolViolation)
-codes s at kind e = subst Coded e (frame-codes s at kind)
+pub codes : (role : Role) (s : List ℕ) (at : ℕ) (kind : Kind) {answer : Answer} {ty : ℕ} → frameAt role s at kind ≡ Refused answer ty → (answer ≡ FrameEncoding) ⊎ (answer ≡ ProtocolViolation)
+codes role s at kind e = subst Coded e (frame-codes role s at kind)

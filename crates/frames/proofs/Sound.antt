@@ -20,11 +20,12 @@ use Rattle.fields.specs.Parts.{endedAt, partsAt, withFields}
 use Rattle.fields.specs.declared.Fields.{Fields}
 use Rattle.fields.specs.declared.Fields.the-variants.{Wrong}
 use Rattle.frames.specs.Fields.{frameOf, fieldsAt}
-use Rattle.frames.specs.Admission.{admitted}
+use Rattle.admission.specs.Admission.{admitted}
 use Rattle.fields.specs.Heads.{headAt}
 use Rattle.frames.specs.Reading.{withHead, admittedHead, frameAt, anyFrameAt}
 use Rattle.frames.specs.Sound.{Lies, FieldsRead}
 use Rattle.kinds.specs.declared.Kind.{Kind}
+use Rattle.kinds.specs.declared.Role.{Role}
 use Rattle.frames.specs.declared.Frame.{Frame}
 use Rattle.fields.specs.declared.Head.{Head}
 use Rattle.fields.specs.declared.Head.the-variants as Head'
@@ -108,20 +109,20 @@ any-got s at {f} {ty} {n} =
     (λ answer t h e. impossible cc) (parted s at f ty n)
 
 -- a frame that was read in a packet of a kind was admitted there, and is read alike in any
-module _ (s : List ℕ) (kind : Kind) (f : Frame) (ty n : ℕ) where
+module _ (role : Role) (s : List ℕ) (kind : Kind) (f : Frame) (ty n : ℕ) where
   abbrev after : Head → Reading
   after h = withHead h (λ t next. fieldsAt s next t)
 
-  all-admitted : (h : Head) → after (admittedHead kind h) ≡ Got f ty n → (admitted kind ty ≡ true) × (after h ≡ Got f ty n)
+  all-admitted : (h : Head) → after (admittedHead role kind h) ≡ Got f ty n → (admitted role kind ty ≡ true) × (after h ≡ Got f ty n)
   all-admitted (Head'.Refused answer t) e = impossible cc
   all-admitted (Head'.Type t next) e =
-      holds (λ (h : Head). after h ≡ Got f ty n → (admitted kind ty ≡ true) × (fieldsAt s next t ≡ Got f ty n))
-      (not (admitted kind t)) (Head'.Refused ProtocolViolation t) (Head'.Type t next) (λ u e. impossible cc)
-      (λ u e. (subst (λ (v : ℕ). admitted kind v ≡ true) (sym (fields-got s next t e .type)) (not-false _ u), e)) e
+      holds (λ (h : Head). after h ≡ Got f ty n → (admitted role kind ty ≡ true) × (fieldsAt s next t ≡ Got f ty n))
+      (not (admitted role kind t)) (Head'.Refused ProtocolViolation t) (Head'.Type t next) (λ u e. impossible cc)
+      (λ u e. (subst (λ (v : ℕ). admitted role kind v ≡ true) (sym (fields-got s next t e .type)) (not-false _ u), e)) e
 
-pub frame-got : (s : List ℕ) (at : ℕ) (kind : Kind) {f : Frame} {ty n : ℕ} → frameAt s at kind ≡ Got f ty n → (admitted kind ty ≡ true) × (anyFrameAt s at ≡ Got f ty n)
+pub frame-got : (role : Role) (s : List ℕ) (at : ℕ) (kind : Kind) {f : Frame} {ty n : ℕ} → frameAt role s at kind ≡ Got f ty n → (admitted role kind ty ≡ true) × (anyFrameAt s at ≡ Got f ty n)
 unfolding frameAt anyFrameAt
-frame-got s at kind {f} {ty} {n} = all-admitted s kind f ty n (headAt s at)
+frame-got role s at kind {f} {ty} {n} = all-admitted role s kind f ty n (headAt s at)
 
 -- fields that were read end within the payload and not before their place
 module _ (s : List ℕ) where
@@ -142,5 +143,5 @@ sound-any s at {f} {ty} {n} e =
     let j = fields-in s (g .0) ty (g .4) (i .within) in
     record { above = omega (arith, i .above, j .0); within = j .1; known = leb-true ty 0x1e (g .3) }
 
-pub sound : (s : List ℕ) (at : ℕ) (kind : Kind) {f : Frame} {ty n : ℕ} → frameAt s at kind ≡ Got f ty n → Lies s at ty n
-sound s at kind e = sound-any s at (frame-got s at kind e .1)
+pub sound : (role : Role) (s : List ℕ) (at : ℕ) (kind : Kind) {f : Frame} {ty n : ℕ} → frameAt role s at kind ≡ Got f ty n → Lies s at ty n
+sound role s at kind e = sound-any s at (frame-got role s at kind e .1)

@@ -1,4 +1,3 @@
-pub mod Admission
 pub mod Fields
 pub mod Reading
 pub mod Sound

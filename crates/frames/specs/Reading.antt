@@ -1,4 +1,4 @@
--- One frame at a place of a payload, docs/RULES.md, "For a frame": type readable (7), shortest (10), known (7), admitted in this packet kind (10), fields (7).
+-- One frame at a place of a payload, docs/RULES.md, "For a frame": type readable (7), shortest (10), known (7), admitted in this packet kind and role (10), fields (7).
 use Prim.Native.Nat.{ℕ}
 use mathlib.Core.Bool.{not}
 use mathlib.Core.List.{List}
@@ -7,9 +7,10 @@ use Rattle.answers.specs.declared.Answer.the-variants.{ProtocolViolation}
 use Rattle.fields.specs.Heads.{headAt}
 use Rattle.fields.specs.declared.Head.{Head}
 use Rattle.fields.specs.declared.Head.the-variants as Head'
-use Rattle.frames.specs.Admission.{admitted}
+use Rattle.admission.specs.Admission.{admitted}
 use Rattle.frames.specs.Fields.{fieldsAt}
 use Rattle.kinds.specs.declared.Kind.{Kind}
+use Rattle.kinds.specs.declared.Role.{Role}
 use Rattle.frames.specs.declared.Reading.{Reading}
 use Rattle.frames.specs.declared.Reading.the-variants.{Refused}
 
@@ -18,16 +19,16 @@ abbrev pub withHead : Head → (ℕ → ℕ → Reading) → Reading
 withHead (Head'.Type ty next) k = k ty next
 withHead (Head'.Refused answer ty) k = Refused answer ty
 
--- a type that a packet of this kind may carry to a server; a refusal stays one
-abbrev pub admittedHead : Kind → Head → Head
-admittedHead kind (Head'.Type ty next) =
-    not (admitted kind ty) ⇒ Head'.Refused ProtocolViolation ty
+-- a type that a packet of this kind may carry to us; a refusal stays one
+abbrev pub admittedHead : Role → Kind → Head → Head
+admittedHead role kind (Head'.Type ty next) =
+    not (admitted role kind ty) ⇒ Head'.Refused ProtocolViolation ty
     ∣ Head'.Type ty next
-admittedHead kind (Head'.Refused answer ty) = Head'.Refused answer ty
+admittedHead role kind (Head'.Refused answer ty) = Head'.Refused answer ty
 
--- a frame in a packet of this kind, at a server
-unfoldable pub frameAt : List ℕ → ℕ → Kind → Reading
-frameAt s at kind = withHead (admittedHead kind (headAt s at)) (λ ty next. fieldsAt s next ty)
+-- a frame in a packet of this kind, at an end of this role
+unfoldable pub frameAt : Role → List ℕ → ℕ → Kind → Reading
+frameAt role s at kind = withHead (admittedHead role kind (headAt s at)) (λ ty next. fieldsAt s next ty)
 
 -- a frame whatever packet it stands in
 unfoldable pub anyFrameAt : List ℕ → ℕ → Reading

@@ -1,5 +1,4 @@
 // Frames (RFC 9000, 12.4 and 19): one frame read at a place of a payload, in the order of docs/RULES.md, "For a frame".
-mod admission;
 mod assembly;
 
 ghost use mathlib.Core.Path.{_≡_};
@@ -10,6 +9,7 @@ use fields::Fields;
 use fields::Head;
 use fields::heads;
 use kinds::Kind;
+use kinds::Role;
 
 // A frame. Numbers have the names of section 19, in short. Bytes are places in the slice that the frame was read
 // from: `at` and `len`, or `at` alone for PATH data (8 bytes), `token` for a reset token (16 bytes), and `at` for
@@ -135,14 +135,14 @@ fn read_fields(s: &[u8], at: usize, ty: u64) -> Reading
     }
 }
 
-// A type that a packet of this kind may carry to a server; what was refused stays so.
-fn admit(kind: Kind, head: Head) -> Head
-    ensures { λ r. ⌜ r ≡ admittedHead kind head ⌝ }
+// A type that a packet of this kind may carry to us; what was refused stays so.
+fn admit(role: Role, kind: Kind, head: Head) -> Head
+    ensures { λ r. ⌜ r ≡ admittedHead role kind head ⌝ }
 {
     let Head::Type { ty, next: _ } = head else {
         return head;
     };
-    if admission::admits(kind, ty) {
+    if admission::admits(role, kind, ty) {
         return head;
     }
     Head::Refused {
@@ -161,11 +161,11 @@ fn read_after(s: &[u8], head: Head) -> Reading
     }
 }
 
-// Reads the frame at a place of a payload of a packet of this kind, at a server.
-pub fn read(s: &[u8], at: usize, kind: Kind) -> Reading
-    ensures { λ r. ⌜ r ≡ frameAt (now (s .entry)) at kind ⌝ }
+// Reads the frame at a place of a payload of a packet of this kind, at an end of this role.
+pub fn read(role: Role, s: &[u8], at: usize, kind: Kind) -> Reading
+    ensures { λ r. ⌜ r ≡ frameAt role (now (s .entry)) at kind ⌝ }
 {
-    read_after(s, admit(kind, heads::read(s, at)))
+    read_after(s, admit(role, kind, heads::read(s, at)))
 }
 
 // Reads the frame at a place, whatever packet it stands in: what a writer's frames are read back by.

@@ -3,6 +3,8 @@
 use mathlib.Core.Path.{refl}
 use Rattle.answers.specs.Firm.{Firm}
 use Rattle.answers.proofs.Firm.{equation}
+use Rattle.halves.proofs.seated.Kinds as seated
+use Rattle.halves.proofs.seated.Reads as seated-reads
 use Rattle.halves.proofs.named.Kinds as named
 use Rattle.halves.proofs.named.Reads as named-reads
 use Rattle.halves.proofs.id_of.Kinds as id-of
@@ -11,6 +13,9 @@ use Rattle.halves.proofs.is_peers.Kinds as is-peers
 use Rattle.halves.proofs.is_peers.Reads as is-peers-reads
 use Rattle.halves.proofs.place_of.Kinds as place-of
 use Rattle.halves.proofs.place_of.Reads as place-of-reads
+
+pub seated-firm : Firm 0 seated.ps seated.r seated-reads.Asked seated-reads.Post
+seated-firm = equation refl
 
 pub named-firm : Firm 0 named.ps named.r named-reads.Asked named-reads.Post
 named-firm = equation refl

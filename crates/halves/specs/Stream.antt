@@ -5,7 +5,7 @@ use lib.Dec.{ltb, eqb}
 use Rattle.answers.specs.Choice.{_⇒_∣_}
 use Rattle.halves.specs.declared.Stream.{Stream}
 
--- the stream that an ID names: at a server its half is its type
+-- the stream that an ID names, the ID that it has at a server (`Seat`): its half is its type there
 abbrev pub streamOf : ℕ → Stream
 streamOf id = record { half = id % 4; ordinal = id / 4 }
 

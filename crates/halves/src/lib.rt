@@ -1,6 +1,9 @@
-// A stream by its half and ordinal (RFC 9000, 2.1): who opens it, and where its entry stands in the table.
+// A stream by its half and ordinal (RFC 9000, 2.1): who opens it, and where its entry stands in the table. Half and ordinal are read
+// off the ID that the stream has at a server; a client's IDs are turned into such before anything else is asked of them.
 ghost use mathlib.Core.Path.{_≡_};
+ghost use Rattle.halves.specs.Seat.{exchangedOf, seatedOf};
 ghost use Rattle.halves.specs.Stream.{streamOf, idOf, peers, placeOf};
+use kinds::Role;
 
 // Halves by number: 0 the peer's two-way streams, 1 our two-way ones, 2 the peer's one-way, 3 our one-way.
 pub struct Stream {
@@ -15,6 +18,26 @@ impl Stream {
 
 // The places that a half has in the table.
 const PLACES: usize = Stream::MOST as usize;
+
+// The types 0 and 1 exchanged, and 2 and 3: what one end calls its own streams, the other calls the peer's.
+fn exchanged(id: u64) -> u64
+    ensures { λ r. ⌜ r ≡ exchangedOf id ⌝ }
+{
+    if id % 2 == 0 {
+        return id + 1;
+    }
+    id - 1
+}
+
+// An ID on the wire as the ID that the stream has at a server; and back, as twice is not at all.
+pub fn seated(role: Role, id: u64) -> u64
+    ensures { λ r. ⌜ r ≡ seatedOf role id ⌝ }
+{
+    match role {
+        Role::Server => id,
+        Role::Client => exchanged(id),
+    }
+}
 
 // The stream that an ID names.
 pub fn named(id: u64) -> Stream

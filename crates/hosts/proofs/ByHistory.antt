@@ -8,6 +8,7 @@ use mathlib.Core.List.{List, []}
 use native.Mathlib.Omega.{arith}
 use lib.Dec.{ltb, leb}
 use borrow.Author.Tests.{not-true, not-false, ltb-true, leb-false}
+use Rattle.kinds.specs.declared.Role.{Role}
 use Rattle.answers.specs.Choice.{_⇒_∣_}
 use Rattle.answers.specs.Answers.{accepts}
 use Rattle.answers.specs.declared.Answer.{Answer}
@@ -39,9 +40,11 @@ use Rattle.rules.specs.Rules.{rule1, rule2, rule3, rule4, rule5, endsOf, blocke
 use Rattle.verdicts.specs.Verdict.{verdictOf, judgedOf}
 use Rattle.calls.specs.declared.Call.{Call}
 use Rattle.calls.specs.declared.Call.the-variants.{RaiseCredit, RaiseStream, RaiseCount, OpenNext}
-use Rattle.calls.specs.declared.Replied.{Replied}
+use Rattle.replies.specs.declared.Replied.{Replied}
 use Rattle.calls.specs.Calls as calls
-use Rattle.calls.specs.Calls.{raiseOf, peersType, oursType, replyOf, ruledOf, repliedOf}
+use Rattle.replies.specs.Replies as replies
+use Rattle.calls.specs.Calls.{raiseOf, peersType, oursType, replyOf}
+use Rattle.replies.specs.Replies.{ruledOf, repliedOf}
 use Rattle.limits.specs.Fits.{fits}
 use Rattle.spaces.specs.Spaces.{recordsFit}
 use Rattle.packets.specs.Begin.{refusedOf, beginOf}
@@ -62,7 +65,7 @@ use Rattle.demands.specs.Heard.{shownBy, heardBy}
 use Rattle.demands.specs.Demand3.{Demand3}
 use Rattle.demands.proofs.Frames.{decided, Live, answer-is, shown-is, barred, refused-with, IfRefused}
 use Rattle.demands.proofs.OneByOne.{header-refused}
-use Rattle.demands.proofs.Lifted.{open-same, four-of, lifted}
+use Rattle.demands.proofs.Lifted.{role-of, open-same, four-of, lifted}
 use Rattle.demands.proofs.Proved.{settled-answer, demand3}
 use Rattle.hosts.specs.ByHistory.{totalBy, verdictBy, replyBy, ClosedNext, ByHistory}
 use Rattle.hosts.proofs.OnlyThen.{only-then}
@@ -74,7 +77,7 @@ unfolding gateOf
 gate-shut fit mark e f = rw (e, f) (refl, refl)
 
 pub closed-next : ClosedNext
-unfolding beginOf refusedOf calledAt repliedOf calls.settledOf
+unfolding beginOf refusedOf calledAt repliedOf replies.settledOf
 closed-next h (TakeFrame s at kind) f c =
     let g = gate-shut (fits (h .conn) (h .table)) (h .conn .mark) (not-false _ f) (not-true _ c) in
     barred h s at kind (g .0) .0 ∙ g .1
@@ -88,15 +91,15 @@ closed-next h (HandOut space) f c = absurd (not-both _ c refl)
 
 -- ---- on an open connection whose table fits
 
-call-is : (h : State) → fits (h .conn) (h .table) ≡ true → isOpen (h .conn .mark) ≡ true → (k : Call) → answered h (Make k) ≡ replyOf (h .conn) (entryOf (h .table) (calls.streamIn k)) k
-unfolding calledAt repliedOf ruledOf calls.settledOf
+call-is : (h : State) → fits (h .conn) (h .table) ≡ true → isOpen (h .conn .mark) ≡ true → (k : Call) → answered h (Make k) ≡ replyOf (h .conn) (entryOf (h .table) (calls.streamIn (calls.seatedCall (h .conn .role) k))) (calls.seatedCall (h .conn .role) k)
+unfolding calledAt repliedOf ruledOf replies.settledOf
 call-is h f p k =
     holds (λ (x : Called). x .answer ≡ reply) (fits (h .conn) (h .table)) _ _ (λ t.
     holds Replies (not (isOpen (h .conn .mark))) _ _ (λ u. absurd (not-both _ p (not-true _ u))) (λ u.
     holds Replies (accepts reply) _ _ (λ a. sym (accepts-true reply a)) (λ a. refl))) (λ t. absurd (not-both _ f t))
   where
     reply : Answer
-    reply = replyOf (h .conn) (entryOf (h .table) (calls.streamIn k)) k
+    reply = replyOf (h .conn) (entryOf (h .table) (calls.streamIn (calls.seatedCall (h .conn .role) k))) (calls.seatedCall (h .conn .role) k)
 
     Replies : Replied → Type 0
     Replies r = r .called .answer ≡ reply
@@ -111,15 +114,19 @@ handed-is h space = either-answer (ltb mostCredit (nextOf (h .conn) space)) _ _
 
 -- ---- since opening
 
-module _ (o : Limits) (t : List Entry) (xs : List Act) (h : WasHosted o t) where
+module _ (role : Role) (o : Limits) (t : List Entry) (xs : List Act) (h : WasHosted role o t) where
   abbrev now : State
-  now = hostAfter o t xs
+  now = hostAfter role o t xs
 
   abbrev past : List Event
-  past = heardBy o t xs
+  past = heardBy role o t xs
 
-  d : Demand3 o t xs
-  d = demand3 o t xs h
+  d : Demand3 role o t xs
+  d = demand3 role o t xs h
+
+  -- the role is the one that was opened with
+  seat : now .conn .role ≡ role
+  seat = role-of role o past now (lifted role o t h xs)
 
   fit : fits (now .conn) (now .table) ≡ true
   fit = go (fits (now .conn) (now .table)) refl
@@ -129,7 +136,7 @@ module _ (o : Limits) (t : List Entry) (xs : List Act) (h : WasHosted o t) where
       go false e = absurd (d .never-unfit (TakeFrame [] 0 OneRtt) tt (only-then now (TakeFrame [] 0 OneRtt) .first-of-all (ap not e)))
 
   facts : Fits (now .conn) (now .table)
-  facts = fits-facts (now .conn) (now .table) (four-of o past now (lifted o t h xs)) fit
+  facts = fits-facts (now .conn) (now .table) (four-of role o past now (lifted role o t h xs)) fit
 
   count : (id : ℕ) → countOf (now .conn) (id % 4) ≡ countBy o past (id % 4)
   count id = d .each-count (id % 4) (omega arith)
@@ -212,38 +219,42 @@ module _ (o : Limits) (t : List Entry) (xs : List Act) (h : WasHosted o t) where
     live : Live now
     live = record { fit = facts; still-open = ap isOpen p }
 
-    judged : (s : List ℕ) (at : ℕ) (kind : Kind) (frame : Frame) (ty next : ℕ) → frameAt s at kind ≡ Got frame ty next → answered now (TakeFrame s at kind) ≡ verdictBy o past (viewOf kind frame)
+    -- a frame is read in the connection's own seat
+    here : (s : List ℕ) (at : ℕ) (kind : Kind) → frameAt (now .conn .role) s at kind ≡ frameAt role s at kind
+    here s at kind = ap (λ (r : Role). frameAt r s at kind) seat
+
+    judged : (s : List ℕ) (at : ℕ) (kind : Kind) (frame : Frame) (ty next : ℕ) → frameAt role s at kind ≡ Got frame ty next → answered now (TakeFrame s at kind) ≡ verdictBy o past (viewOf role kind frame)
     unfolding decidedOf requestOf judgedOf
     judged s at kind frame ty next e =
-        answer-is now live s at kind ∙ ap (λ (r : Reading). decided now kind at r .stepped .answer) e
-        ∙ settled-answer (verdictOf (now .conn) (entryOf (now .table) (streamIn (viewOf kind frame))) (viewOf kind frame)) (now .conn) _ ty _ _
-        ∙ verdict-by (viewOf kind frame)
+        answer-is now live s at kind ∙ ap (λ (r : Reading). decided now kind at r .stepped .answer) (here s at kind ∙ e)
+        ∙ settled-answer (verdictOf (now .conn) (entryOf (now .table) (streamIn (viewOf (now .conn .role) kind frame))) (viewOf (now .conn .role) kind frame)) (now .conn) _ ty _ _
+        ∙ verdict-by (viewOf (now .conn .role) kind frame) ∙ ap (λ (r : Role). verdictBy o past (viewOf r kind frame)) seat
 
     -- a reading that is refused does not accept
-    unread : (s : List ℕ) (at : ℕ) (kind : Kind) (answer : Answer) (ty : ℕ) → frameAt s at kind ≡ Refused answer ty → answered now (TakeFrame s at kind) ≡ answer
+    unread : (s : List ℕ) (at : ℕ) (kind : Kind) (answer : Answer) (ty : ℕ) → frameAt role s at kind ≡ Refused answer ty → answered now (TakeFrame s at kind) ≡ answer
     unfolding decidedOf requestOf
     unread s at kind answer ty e =
-        let c : accepts answer ≡ false = subst (IfRefused (λ (a : Answer). accepts a ≡ false)) e (refused-with (λ (a : Answer). accepts a ≡ false) refl refl s at kind) in
-        answer-is now live s at kind ∙ ap (λ (r : Reading). decided now kind at r .stepped .answer) e ∙ rw c refl
+        let c : accepts answer ≡ false = subst (IfRefused (λ (a : Answer). accepts a ≡ false)) e (refused-with (λ (a : Answer). accepts a ≡ false) refl refl role s at kind) in
+        answer-is now live s at kind ∙ ap (λ (r : Reading). decided now kind at r .stepped .answer) (here s at kind ∙ e) ∙ rw c refl
 
-    shows : (s : List ℕ) (at : ℕ) (kind : Kind) (frame : Frame) (ty next : ℕ) → frameAt s at kind ≡ Got frame ty next → shownBy now s at kind ≡ Whole frame ty next
+    shows : (s : List ℕ) (at : ℕ) (kind : Kind) (frame : Frame) (ty next : ℕ) → frameAt role s at kind ≡ Got frame ty next → shownBy now s at kind ≡ Whole frame ty next
     unfolding shownAt shownOf
-    shows s at kind frame ty next e = shown-is now live s at kind ∙ rw e refl
+    shows s at kind frame ty next e = shown-is now live s at kind ∙ rw (here s at kind ∙ e) refl
 
-    shows-type : (s : List ℕ) (at : ℕ) (kind : Kind) (answer : Answer) (ty value next : ℕ) → frameAt s at kind ≡ Refused answer ty → numberAt s at ≡ Is value next → shownBy now s at kind ≡ Typed value
+    shows-type : (s : List ℕ) (at : ℕ) (kind : Kind) (answer : Answer) (ty value next : ℕ) → frameAt role s at kind ≡ Refused answer ty → numberAt s at ≡ Is value next → shownBy now s at kind ≡ Typed value
     unfolding shownAt shownOf
-    shows-type s at kind answer ty value next e n = shown-is now live s at kind ∙ rw (e, n) refl
+    shows-type s at kind answer ty value next e n = shown-is now live s at kind ∙ rw (here s at kind ∙ e, n) refl
 
     shows-nothing : (s : List ℕ) (at : ℕ) (kind : Kind) → numberAt s at ≡ CutShort → shownBy now s at kind ≡ Unseen
     unfolding shownAt shownOf
-    shows-nothing s at kind n = shown-is now live s at kind ∙ rw (unreadable s at kind n, n) refl
+    shows-nothing s at kind n = shown-is now live s at kind ∙ rw (unreadable (now .conn .role) s at kind n, n) refl
 
     unclosed : markBy past ≡ Open
     unclosed =
-        let l = lifted o t h xs in
-        sym (said o past (h .two) (l .accepted) .mark) ∙ sym (ap (λ (x : State). x .conn .mark) (open-same _ _ (l .follows) (ap isOpen p))) ∙ p
+        let l = lifted role o t h xs in
+        sym (said role o past (h .two) (l .accepted) .mark) ∙ sym (ap (λ (x : State). x .conn .mark) (open-same _ _ (l .follows) (ap isOpen p))) ∙ p
 
-  pub by-history : ByHistory o t xs
+  pub by-history : ByHistory role o t xs
   by-history = record {
     none-closed = unclosed;
     frame-shown = shows;
@@ -251,6 +262,6 @@ module _ (o : Limits) (t : List Entry) (xs : List Act) (h : WasHosted o t) where
     nothing-shown = shows-nothing;
     frame-judged = judged;
     frame-refused = unread;
-    call-answered = λ p k. call-is now fit (ap isOpen p) k ∙ reply-by k;
+    call-answered = λ p k. call-is now fit (ap isOpen p) k ∙ reply-by (calls.seatedCall (now .conn .role) k) ∙ ap (λ (r : Role). replyBy o past (calls.seatedCall r k)) seat;
     number-answered = λ space. handed-is now space ∙ ap (λ (m : ℕ). ltb mostCredit m ⇒ AboveCeiling ∣ Accepted) (d .each-next space);
   }

@@ -27,8 +27,9 @@ use Rattle.views.specs.View.{viewOf}
 use Rattle.verdicts.specs.Verdict.{connHeard}
 use Rattle.calls.specs.declared.Call.{Call}
 use Rattle.calls.specs.declared.Call.the-variants.{RaiseCredit, RaiseStream, RaiseCount, OpenNext}
-use Rattle.calls.specs.declared.Replied.{Replied}
-use Rattle.calls.specs.Calls.{connCalled, replyOf, settledOf, ruledOf, repliedOf}
+use Rattle.replies.specs.declared.Replied.{Replied}
+use Rattle.calls.specs.Calls.{seatedCall, replyOf}
+use Rattle.replies.specs.Replies.{connCalled, settledOf, ruledOf, repliedOf}
 use Rattle.limits.specs.Fits.{fits}
 use Rattle.steps.specs.Step.{requestOf}
 use Rattle.receive.specs.Taking.{begunOf}
@@ -75,7 +76,7 @@ unfolding calledAt repliedOf ruledOf settledOf
 made h k =
     holds (Made (h .conn)) (fits (h .conn) (h .table)) _ _ (λ f.
     holds Fine (not (isOpen (h .conn .mark))) _ _ (λ o. record { mark = refl; number = λ a. refl }) (λ o.
-    holds Fine (accepts (replyOf (h .conn) (entryOf (h .table) _) k)) _ _ (λ p. record { mark = called-mark (h .conn) k; number = λ a. impossible cc }) (λ p. record { mark = refl; number = λ a. refl }))) (λ f. record { mark = refl; number = λ a. refl })
+    holds Fine (accepts (replyOf (h .conn) (entryOf (h .table) _) (seatedCall (h .conn .role) k))) _ _ (λ p. record { mark = called-mark (h .conn) (seatedCall (h .conn .role) k); number = λ a. impossible cc }) (λ p. record { mark = refl; number = λ a. refl }))) (λ f. record { mark = refl; number = λ a. refl })
   where
     Fine : Replied → Type 0
     Fine r = Made (h .conn) (r .called)
@@ -87,14 +88,14 @@ handed h space = holds (Made (h .conn)) (ltb mostCredit (nextOf (h .conn) space)
 -- ---- one frame
 
 module _ (h : State) (four : length (h .conn .opened) ≡ 4) (s : List ℕ) (at : ℕ) (kind : Kind) where
-  frame-mark : (frame : Frame) (ty next : ℕ) → frameAt s at kind ≡ Got frame ty next → accepts (answered h (TakeFrame s at kind)) ≡ true → acted h (TakeFrame s at kind) .conn .mark ≡ marks (Heard (viewOf kind frame)) (h .conn .mark)
+  frame-mark : (frame : Frame) (ty next : ℕ) → frameAt (h .conn .role) s at kind ≡ Got frame ty next → accepts (answered h (TakeFrame s at kind)) ≡ true → acted h (TakeFrame s at kind) .conn .mark ≡ marks (Heard (viewOf (h .conn .role) kind frame)) (h .conn .mark)
   unfolding after connAfter requestOf
   frame-mark frame ty next e a =
       let v = live in
-      let w = accepted-is h v kind at (frameAt s at kind) (refusing s at kind) (ap accepts (sym (answer-is h v s at kind)) ∙ a) in
+      let w = accepted-is h v kind at (frameAt (h .conn .role) s at kind) (refusing (h .conn .role) s at kind) (ap accepts (sym (answer-is h v s at kind)) ∙ a) in
       ap (λ (x : State). x .conn .mark) (acted-is h v s at kind ∙ w .1)
-      ∙ ap (λ (r : Reading). after h (Heard (requestOf kind at r .view)) .conn .mark) e
-      ∙ heard-mark (h .conn) _ (viewOf kind frame)
+      ∙ ap (λ (r : Reading). after h (Heard (requestOf (h .conn .role) kind at r .view)) .conn .mark) e
+      ∙ heard-mark (h .conn) _ (viewOf (h .conn .role) kind frame)
     where
       open-now : isOpen (h .conn .mark) ≡ true
       open-now = gate-passes _ _ (passed-gate h s at kind a)

@@ -8,7 +8,7 @@ use Rattle.layouts.specs.Body.{numbersAt, optionalAt, sizedAt, countedAt, remai
 use Rattle.fields.specs.Faults.{faultOf, aboveOf, tooMany, misissuedOf}
 use Rattle.fields.specs.Parts.{endedAt, partsAt}
 use Rattle.fields.specs.Heads.{headAt}
-use Rattle.frames.specs.Admission.{admitted}
+use Rattle.admission.specs.Admission.{admitted}
 use Rattle.frames.specs.Fields.{frameOf, fieldsAt}
 use Rattle.frames.specs.Reading.{frameAt}
 use Rattle.numbers.specs.Numbers.{nearestOf, recoveredOf}

@@ -8,7 +8,7 @@ use Rattle.layouts.specs.Body.{numbersAt, optionalAt, sizedAt, countedAt, remai
 use Rattle.fields.specs.Faults.{faultOf, aboveOf, tooMany, misissuedOf}
 use Rattle.fields.specs.Parts.{endedAt, partsAt}
 use Rattle.fields.specs.Heads.{headAt}
-use Rattle.frames.specs.Admission.{admitted}
+use Rattle.admission.specs.Admission.{admitted}
 use Rattle.frames.specs.Fields.{frameOf, fieldsAt}
 use Rattle.frames.specs.Reading.{frameAt}
 use Rattle.numbers.specs.Numbers.{nearestOf, recoveredOf}
@@ -23,7 +23,8 @@ use Rattle.opening.specs.Opening.{openingOf, openingWhen, entriesOf}
 use Rattle.views.specs.View.{endOf}
 use Rattle.rules.specs.Rules.{rule1, rule2, rule3, rule4, rule5, endsOf, blockedOf, forSenderOf}
 use Rattle.verdicts.specs.Verdict.{verdictOf, connHeard, entryHeard, settledOf, judgedOf}
-use Rattle.calls.specs.Calls.{raiseOf, replyOf, ruledOf, repliedOf}
+use Rattle.calls.specs.Calls.{raiseOf, replyOf}
+use Rattle.replies.specs.Replies.{ruledOf, repliedOf}
 use Rattle.limits.specs.Fits.{openFit, connFits, sumTo, allTo, fits}
 use Rattle.headers.specs.First.{headerOf, sizeIn, reservedOf}
 use Rattle.spaces.specs.Spaces.{recordsFit, recordedOf}

@@ -40,7 +40,7 @@ to-end (suc k) h v s at kind l m =
     holds After (not (isOpen (acted h x .conn .mark))) _ _ (λ o a p. absurd (not-both _ p (not-true _ o))) (λ o a p.
     let b = not-false _ c in
     let w = whole-is h v s at kind b in
-    let q = sound s at kind (w .reads) in
+    let q = sound (h .conn .role) s at kind (w .reads) in
     let n = next-shown h v s at kind b in
     to-end k (acted h x) (still-live h v s at kind b (not-false _ o)) s (nextShown at (shownBy h s at kind)) kind (omega (arith, n, q .within)) (omega (arith, n, q .above)) a p)))
   where

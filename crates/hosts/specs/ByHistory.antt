@@ -5,6 +5,7 @@ use mathlib.Core.Path.{_≡_}
 use mathlib.Core.Bool.{Bool, true, false, not, _||_, _&&_}
 use mathlib.Core.List.{List}
 use lib.Dec.{ltb, leb}
+use Rattle.kinds.specs.declared.Role.{Role}
 use Rattle.answers.specs.Choice.{_⇒_∣_}
 use Rattle.answers.specs.declared.Answer.{Answer}
 use Rattle.answers.specs.declared.Answer.the-variants.{Accepted, FlowControl, StreamLimit, StreamState, FinalSize, ProtocolViolation, Closed, AboveCeiling, NotServed, SizeKnown}
@@ -27,7 +28,7 @@ use Rattle.views.specs.View.{viewOf}
 use Rattle.rules.specs.Rules.{rule1, rule2, rule3, rule4, rule5}
 use Rattle.calls.specs.declared.Call.{Call}
 use Rattle.calls.specs.declared.Call.the-variants.{RaiseCredit, RaiseStream, RaiseCount, OpenNext}
-use Rattle.calls.specs.Calls.{raiseOf, peersType, oursType}
+use Rattle.calls.specs.Calls.{seatedCall, raiseOf, peersType, oursType}
 use Rattle.limits.specs.Fits.{sumTo}
 use Rattle.steps.specs.declared.Shown.the-variants.{Nothing as Unseen, Typed, Whole}
 use Rattle.accounts.specs.History.{Event, State, own, furthest, finalNamed}
@@ -93,17 +94,17 @@ isBarred h (HandOut space) = false
 abbrev pub ClosedNext : Type 0
 ClosedNext = (h : State) (x : Act) → doesNotFit h x ≡ false → isBarred h x ≡ true → answered h x ≡ Closed
 
-pub record ByHistory (o : Limits) (t : List Entry) (xs : List Act) : Type 0 where
+pub record ByHistory (role : Role) (o : Limits) (t : List Entry) (xs : List Act) : Type 0 where
   -- while the connection is open no CONNECTION_CLOSE was accepted
-  pub none-closed : hostAfter o t xs .conn .mark ≡ Open → markBy (heardBy o t xs) ≡ Open
+  pub none-closed : hostAfter role o t xs .conn .mark ≡ Open → markBy (heardBy role o t xs) ≡ Open
   -- a frame that can be read is shown whole, and judged by the state rules; one that cannot has its reading's answer
-  pub frame-shown : hostAfter o t xs .conn .mark ≡ Open → (s : List ℕ) (at : ℕ) (kind : Kind) (frame : Frame) (ty next : ℕ) → frameAt s at kind ≡ Got frame ty next → shownBy (hostAfter o t xs) s at kind ≡ Whole frame ty next
+  pub frame-shown : hostAfter role o t xs .conn .mark ≡ Open → (s : List ℕ) (at : ℕ) (kind : Kind) (frame : Frame) (ty next : ℕ) → frameAt role s at kind ≡ Got frame ty next → shownBy (hostAfter role o t xs) s at kind ≡ Whole frame ty next
   -- .. else its type where it could be read, and nothing where it could not
-  pub type-shown : hostAfter o t xs .conn .mark ≡ Open → (s : List ℕ) (at : ℕ) (kind : Kind) (answer : Answer) (ty value next : ℕ) → frameAt s at kind ≡ Refused answer ty → numberAt s at ≡ Is value next → shownBy (hostAfter o t xs) s at kind ≡ Typed value
-  pub nothing-shown : hostAfter o t xs .conn .mark ≡ Open → (s : List ℕ) (at : ℕ) (kind : Kind) → numberAt s at ≡ CutShort → shownBy (hostAfter o t xs) s at kind ≡ Unseen
-  pub frame-judged : hostAfter o t xs .conn .mark ≡ Open → (s : List ℕ) (at : ℕ) (kind : Kind) (frame : Frame) (ty next : ℕ) → frameAt s at kind ≡ Got frame ty next
-      → answered (hostAfter o t xs) (TakeFrame s at kind) ≡ verdictBy o (heardBy o t xs) (viewOf kind frame)
-  pub frame-refused : hostAfter o t xs .conn .mark ≡ Open → (s : List ℕ) (at : ℕ) (kind : Kind) (answer : Answer) (ty : ℕ) → frameAt s at kind ≡ Refused answer ty → answered (hostAfter o t xs) (TakeFrame s at kind) ≡ answer
-  pub call-answered : hostAfter o t xs .conn .mark ≡ Open → (call : Call) → answered (hostAfter o t xs) (Make call) ≡ replyBy o (heardBy o t xs) call
+  pub type-shown : hostAfter role o t xs .conn .mark ≡ Open → (s : List ℕ) (at : ℕ) (kind : Kind) (answer : Answer) (ty value next : ℕ) → frameAt role s at kind ≡ Refused answer ty → numberAt s at ≡ Is value next → shownBy (hostAfter role o t xs) s at kind ≡ Typed value
+  pub nothing-shown : hostAfter role o t xs .conn .mark ≡ Open → (s : List ℕ) (at : ℕ) (kind : Kind) → numberAt s at ≡ CutShort → shownBy (hostAfter role o t xs) s at kind ≡ Unseen
+  pub frame-judged : hostAfter role o t xs .conn .mark ≡ Open → (s : List ℕ) (at : ℕ) (kind : Kind) (frame : Frame) (ty next : ℕ) → frameAt role s at kind ≡ Got frame ty next
+      → answered (hostAfter role o t xs) (TakeFrame s at kind) ≡ verdictBy o (heardBy role o t xs) (viewOf role kind frame)
+  pub frame-refused : hostAfter role o t xs .conn .mark ≡ Open → (s : List ℕ) (at : ℕ) (kind : Kind) (answer : Answer) (ty : ℕ) → frameAt role s at kind ≡ Refused answer ty → answered (hostAfter role o t xs) (TakeFrame s at kind) ≡ answer
+  pub call-answered : hostAfter role o t xs .conn .mark ≡ Open → (call : Call) → answered (hostAfter role o t xs) (Make call) ≡ replyBy o (heardBy role o t xs) (seatedCall role call)
   -- "after 2^62-1 it is 103", closed or not
-  pub number-answered : (space : Space) → answered (hostAfter o t xs) (HandOut space) ≡ (ltb mostCredit (nextBy (heardBy o t xs) space) ⇒ AboveCeiling ∣ Accepted)
+  pub number-answered : (space : Space) → answered (hostAfter role o t xs) (HandOut space) ≡ (ltb mostCredit (nextBy (heardBy role o t xs) space) ⇒ AboveCeiling ∣ Accepted)

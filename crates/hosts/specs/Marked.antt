@@ -21,8 +21,8 @@ use Rattle.demands.specs.Hosts.Act.{TakeFrame, Make, HandOut}
 
 pub record Marked (h : State) : Type 0 where
   -- "CONNECTION_CLOSE is accepted [..] and closes "by peer"": an accepted frame leaves the mark as the history has it
-  pub frame : (s : List ℕ) (at : ℕ) (kind : Kind) (frame : Frame) (ty next : ℕ) → frameAt s at kind ≡ Got frame ty next → accepts (answered h (TakeFrame s at kind)) ≡ true
-      → acted h (TakeFrame s at kind) .conn .mark ≡ marks (Heard (viewOf kind frame)) (h .conn .mark)
+  pub frame : (s : List ℕ) (at : ℕ) (kind : Kind) (frame : Frame) (ty next : ℕ) → frameAt (h .conn .role) s at kind ≡ Got frame ty next → accepts (answered h (TakeFrame s at kind)) ≡ true
+      → acted h (TakeFrame s at kind) .conn .mark ≡ marks (Heard (viewOf (h .conn .role) kind frame)) (h .conn .mark)
   pub call : (call : Call) → acted h (Make call) .conn .mark ≡ h .conn .mark
   pub number : (space : Space) → acted h (HandOut space) .conn .mark ≡ h .conn .mark
   -- 101 leaves "nothing changed"

@@ -3,6 +3,7 @@ use Prim.Native.Nat.{ℕ, _^_}
 use mathlib.Core.Path.{_≡_}
 use mathlib.Core.List.{List, [], _∷_, _++_, map}
 use lib.ListN.{replicate}
+use Rattle.kinds.specs.declared.Role.the-variants.{Server}
 use Rattle.answers.specs.Answers.{numberOf}
 use Rattle.answers.specs.declared.Answer.the-variants.{AboveCeiling, DoesNotFit}
 use Rattle.streams.specs.declared.Conn.{Conn}
@@ -21,7 +22,7 @@ noLimits = limitsOf 0 0 0 0 0 0
 
 -- a connection of which nothing came
 abbrev pub connOf : Limits → Mark → Conn
-connOf limits mark = record { limits = limits; opened = 0 ∷ 0 ∷ 0 ∷ 0 ∷ []; total = 0; next = 0 ∷ 0 ∷ 0 ∷ []; mark = mark }
+connOf limits mark = record { limits = limits; opened = 0 ∷ 0 ∷ 0 ∷ 0 ∷ []; total = 0; next = 0 ∷ 0 ∷ 0 ∷ []; mark = mark; role = Server }
 
 -- n entries of whatever stood there before
 abbrev pub used : ℕ → List Entry
@@ -33,11 +34,11 @@ tooHigh = limitsOf (2 ^ 62) 4 5 16 17 18 ∷ limitsOf 100 65 5 16 17 18 ∷ limi
 
 pub record Openings : Type 0 where
   -- Opening "sets every entry to its type's initial credit, end 0, no final size", whatever stood there
-  pub opened-conn : openingWhen 192 (limitsOf 100 4 5 16 17 18) .conn ≡ connOf (limitsOf 100 4 5 16 17 18) Open
-  pub opened-entries : openedTable (used 192) (limitsOf 100 4 5 16 17 18) ≡ replicate 64 (fresh 16) ++ (replicate 64 (fresh 17) ++ replicate 64 (fresh 18))
+  pub opened-conn : openingWhen Server 192 (limitsOf 100 4 5 16 17 18) .conn ≡ connOf (limitsOf 100 4 5 16 17 18) Open
+  pub opened-entries : openedTable Server (used 192) (limitsOf 100 4 5 16 17 18) ≡ replicate 64 (fresh 16) ++ (replicate 64 (fresh 17) ++ replicate 64 (fresh 18))
   -- "not 192 entries" is 120, and before 103; a refused opening leaves the table, and gives a connection that is closed and grants nothing
-  pub unopened-answers : map (λ (n : ℕ). map (λ (l : Limits). numberOf (openingWhen n l .answer)) tooHigh) (191 ∷ 192 ∷ 193 ∷ []) ≡ replicate 6 120 ∷ replicate 6 103 ∷ replicate 6 120 ∷ []
-  pub unopened-conns : map (λ (l : Limits). openingWhen 192 l .conn) tooHigh ≡ replicate 6 (connOf noLimits (Code AboveCeiling 0))
-  pub unopened-tables : map (λ (l : Limits). openedTable (used 192) l) tooHigh ≡ replicate 6 (used 192)
-  pub not-192-conns : map (λ (n : ℕ). openingWhen n plain .conn) (0 ∷ 191 ∷ 193 ∷ []) ≡ replicate 3 (connOf noLimits (Code DoesNotFit 0))
-  pub not-192-tables : map (λ (n : ℕ). openedTable (used n) plain) (191 ∷ 193 ∷ []) ≡ map used (191 ∷ 193 ∷ [])
+  pub unopened-answers : map (λ (n : ℕ). map (λ (l : Limits). numberOf (openingWhen Server n l .answer)) tooHigh) (191 ∷ 192 ∷ 193 ∷ []) ≡ replicate 6 120 ∷ replicate 6 103 ∷ replicate 6 120 ∷ []
+  pub unopened-conns : map (λ (l : Limits). openingWhen Server 192 l .conn) tooHigh ≡ replicate 6 (connOf noLimits (Code AboveCeiling 0))
+  pub unopened-tables : map (λ (l : Limits). openedTable Server (used 192) l) tooHigh ≡ replicate 6 (used 192)
+  pub not-192-conns : map (λ (n : ℕ). openingWhen Server n plain .conn) (0 ∷ 191 ∷ 193 ∷ []) ≡ replicate 3 (connOf noLimits (Code DoesNotFit 0))
+  pub not-192-tables : map (λ (n : ℕ). openedTable Server (used n) plain) (191 ∷ 193 ∷ []) ≡ map used (191 ∷ 193 ∷ [])

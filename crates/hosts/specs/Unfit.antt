@@ -4,6 +4,7 @@ use Prim.Native.Nat.{ℕ, _+_, _-_, _^_}
 use mathlib.Core.Path.{_≡_}
 use mathlib.Core.List.{List, [], _∷_, _++_, map}
 use lib.ListN.{length, replicate, set}
+use Rattle.kinds.specs.declared.Role.the-variants.{Server}
 use Rattle.answers.specs.Answers.{numberOf}
 use Rattle.answers.specs.declared.Answer.the-variants.{Accepted, DoesNotFit, Closed}
 use Rattle.kinds.specs.declared.Kind.the-variants.{OneRtt}
@@ -40,7 +41,7 @@ tableOf initial0 initial1 initial2 a b c = (a ∷ replicate 63 (fresh initial0))
 
 -- a host with limits, so many streams of each type open, a total, the next numbers of its spaces, a mark and a table
 abbrev pub wholeHost : Limits → List ℕ → ℕ → List ℕ → Mark → List Entry → State
-wholeHost limits opened total next mark table = record { conn = record { limits = limits; opened = opened; total = total; next = next; mark = mark }; table = table }
+wholeHost limits opened total next mark table = record { conn = record { limits = limits; opened = opened; total = total; next = next; mark = mark; role = Server }; table = table }
 
 abbrev pub hostOf : Limits → List ℕ → ℕ → List Entry → State
 hostOf limits opened total table = wholeHost limits opened total (0 ∷ 0 ∷ 0 ∷ []) Open table
@@ -171,7 +172,7 @@ pub record Unfit : Type 0 where
   pub more-open : pinged (map openedBy ((4 ∷ 1 ∷ 63 ∷ 1 ∷ []) ∷ (5 ∷ 1 ∷ 63 ∷ 1 ∷ []) ∷ (4 ∷ 1 ∷ 64 ∷ 1 ∷ []) ∷ [])) ≡ 0 ∷ 120 ∷ 120 ∷ []
   -- "it is not 192 entries (all that opening asks)"
   pub not-192 : pinged (map long (191 ∷ 192 ∷ 193 ∷ [])) ≡ 120 ∷ 0 ∷ 120 ∷ []
-  pub opening-192 : map (λ (n : ℕ). numberOf (openingWhen (length (replicate n (sized 1 2 3))) plain .answer)) (0 ∷ 191 ∷ 192 ∷ 193 ∷ []) ≡ 120 ∷ 120 ∷ 0 ∷ 120 ∷ []
+  pub opening-192 : map (λ (n : ℕ). numberOf (openingWhen Server (length (replicate n (sized 1 2 3))) plain .answer)) (0 ∷ 191 ∷ 192 ∷ 193 ∷ []) ≡ 120 ∷ 120 ∷ 0 ∷ 120 ∷ []
   -- "before all else", of every call: what fits is accepted, and else it is 120 and "nothing changed"
   pub accepted : answersOf fine ≡ replicate 6 0
   pub refused : map answersOf spoiled ≡ replicate 3 (replicate 6 120)

@@ -1,4 +1,4 @@
-// The kinds of packet that carry frames, and the space that numbers each (RFC 9000, 12.3 and 17).
+// The kinds of packet that carry frames, the space that numbers each (RFC 9000, 12.3 and 17), and the two ends of a connection (1.2).
 ghost use mathlib.Core.Path.{_≡_};
 ghost use Rattle.kinds.specs.Kinds.{spaceOf};
 
@@ -7,6 +7,12 @@ pub enum Kind {
     Handshake,
     ZeroRtt,
     OneRtt,
+}
+
+// Which end of a connection we are: the one that takes it up, or the one that starts it.
+pub enum Role {
+    Server,
+    Client,
 }
 
 // The three spaces of packet numbers.

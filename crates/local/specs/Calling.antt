@@ -11,14 +11,15 @@ use Rattle.halves.specs.Stream.{placeOf}
 use Rattle.entries.specs.Entry.{entryAt}
 use Rattle.limits.specs.Fits.{fits}
 use Rattle.calls.specs.declared.Call.{Call}
-use Rattle.calls.specs.declared.Replied.{Replied}
-use Rattle.calls.specs.Calls.{streamIn, repliedOf}
+use Rattle.replies.specs.declared.Replied.{Replied}
+use Rattle.calls.specs.Calls.{seatedCall, streamIn}
+use Rattle.replies.specs.Replies.{repliedOf}
 
-abbrev pub callPlace : Call → ℕ
-callPlace call = placeOf (streamIn call)
+abbrev pub callPlace : Conn → Call → ℕ
+callPlace c call = placeOf (streamIn (seatedCall (c .role) call))
 
 abbrev pub repliedAt : Conn → List Entry → Call → Replied
-repliedAt c t call = repliedOf c (entryAt t (callPlace call)) call
+repliedAt c t call = repliedOf c (entryAt t (callPlace c call)) call
 
 unfoldable pub calledAt : Conn → List Entry → Call → Called
 calledAt c t call =
@@ -27,5 +28,5 @@ calledAt c t call =
 
 unfoldable pub calledTable : Conn → List Entry → Call → List Entry
 calledTable c t call =
-    fits c t ⇒ set t (callPlace call) (repliedAt c t call .entry)
+    fits c t ⇒ set t (callPlace c call) (repliedAt c t call .entry)
     ∣ t

@@ -21,8 +21,8 @@ pub fn call(c: Conn, t: &mut [Entry], call: Call) -> Called
             conn: c,
         };
     }
-    let i = calls::place(call);
-    let j = calls::judge(c, t[i], call);
+    let i = calls::place(c.role, call);
+    let j = replies::judge(c, t[i], call);
     t[i] = j.entry;
     j.called
 }

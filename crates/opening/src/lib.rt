@@ -9,6 +9,7 @@ ghost use Rattle.streams.specs.Conn.{initialOf};
 ghost use Rattle.opening.specs.Opening.{openedConn, unopenedOf, openingOf, openingWhen, entriesOf};
 use answers::Answer;
 use entries::Entry;
+use kinds::Role;
 use streams::Conn;
 use streams::Limits;
 use streams::Mark;
@@ -20,8 +21,8 @@ pub struct Opened {
 }
 
 // Nothing is open, nothing counted, no number handed out.
-fn unused(limits: Limits, mark: Mark) -> Conn
-    ensures { λ r. ⌜ r ≡ openedConn limits mark ⌝ }
+fn unused(role: Role, limits: Limits, mark: Mark) -> Conn
+    ensures { λ r. ⌜ r ≡ openedConn role limits mark ⌝ }
 {
     Conn {
         limits,
@@ -29,26 +30,27 @@ fn unused(limits: Limits, mark: Mark) -> Conn
         total: 0,
         next: [0; 3],
         mark,
+        role,
     }
 }
 
 impl Opened {
     // A connection that was just opened, or 103 for a limit above its ceiling.
-    pub fn open(limits: Limits) -> Opened
-        ensures { λ r. ⌜ r ≡ openingOf limits ⌝ }
+    pub fn open(role: Role, limits: Limits) -> Opened
+        ensures { λ r. ⌜ r ≡ openingOf role limits ⌝ }
     {
         if limits.fit() {
             return Opened {
                 answer: Answer::Accepted,
-                conn: unused(limits, Mark::Open),
+                conn: unused(role, limits, Mark::Open),
             };
         }
-        Opened::refused(Answer::AboveCeiling)
+        Opened::refused(role, Answer::AboveCeiling)
     }
 
     // An opening that is refused.
-    pub fn refused(answer: Answer) -> Opened
-        ensures { λ r. ⌜ r ≡ unopenedOf answer ⌝ }
+    pub fn refused(role: Role, answer: Answer) -> Opened
+        ensures { λ r. ⌜ r ≡ unopenedOf role answer ⌝ }
     {
         let limits = Limits {
             credit: 0,
@@ -57,19 +59,19 @@ impl Opened {
         };
         Opened {
             answer,
-            conn: unused(limits, Mark::Code { answer, ty: 0 }),
+            conn: unused(role, limits, Mark::Code { answer, ty: 0 }),
         }
     }
 }
 
 // Opens a connection whose table has n entries.
-pub fn for_table(n: usize, limits: Limits) -> Opened
-    ensures { λ r. ⌜ r ≡ openingWhen n limits ⌝ }
+pub fn for_table(role: Role, n: usize, limits: Limits) -> Opened
+    ensures { λ r. ⌜ r ≡ openingWhen role n limits ⌝ }
 {
     if n == Conn::ENTRIES {
-        return Opened::open(limits);
+        return Opened::open(role, limits);
     }
-    Opened::refused(Answer::DoesNotFit)
+    Opened::refused(role, Answer::DoesNotFit)
 }
 
 // How many entries opening sets.

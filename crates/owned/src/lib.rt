@@ -4,6 +4,7 @@ ghost use mathlib.Core.Path.{_≡_};
 ghost use Rattle.owned.specs.Owned.{ownedOpenedOf, ownedFrameOf};
 use entries::Entry;
 use kinds::Kind;
+use kinds::Role;
 use opening::Opened;
 use steps::TookFrame;
 use streams::Conn;
@@ -19,11 +20,11 @@ pub struct OwnedFrame {
     pub table: [Entry; Conn::ENTRIES],
 }
 
-pub fn open(table: [Entry; Conn::ENTRIES], limits: Limits) -> OwnedOpened
-    ensures { λ r. ⌜ r ≡ ownedOpenedOf table limits ⌝ }
+pub fn open(table: [Entry; Conn::ENTRIES], role: Role, limits: Limits) -> OwnedOpened
+    ensures { λ r. ⌜ r ≡ ownedOpenedOf role table limits ⌝ }
 {
     let mut t = table;
-    let opened = tables::open(&mut t, limits);
+    let opened = tables::open(&mut t, role, limits);
     OwnedOpened { opened, table: t }
 }
 

@@ -4,6 +4,7 @@ use mathlib.Core.Bool.{true, false, _||_}
 use mathlib.Core.List.{List}
 use lib.ListN.{length, replicate}
 use lib.Dec.{leb}
+use Rattle.kinds.specs.declared.Role.the-variants.{Server}
 use Rattle.answers.specs.Choice.{_⇒_∣_}
 use Rattle.wire.specs.Writing.{Bytes, writes}
 use Rattle.wire.specs.declared.Wrote.{Wrote}
@@ -20,7 +21,7 @@ use Rattle.pages.specs.declared.Page.{Page}
 
 -- the small connection, opened on a table of 192 entries
 unfoldable pub smallOf : OwnedOpened
-smallOf = ownedOpenedOf (replicate entries (fresh 0)) small
+smallOf = ownedOpenedOf Server (replicate entries (fresh 0)) small
 
 -- the frame that is next, taken
 abbrev pub takenFrom : Page → List ℕ → OwnedFrame

@@ -3,6 +3,7 @@ ghost use mathlib.Core.Path.{_≡_};
 ghost use Rattle.pages.specs.Pages.{smallOf, oneMoreOf, pageOf};
 use entries::Entry;
 use kinds::Kind;
+use kinds::Role;
 use owned::OwnedOpened;
 use report::taken;
 use streams::Conn;
@@ -19,7 +20,7 @@ pub struct Page {
     pub full: bool,
 }
 
-// The small connection, opened.
+// The small connection, opened: the listing is a server's.
 pub fn small() -> OwnedOpened
     ensures { λ r. ⌜ r ≡ smallOf ⌝ }
 {
@@ -28,7 +29,7 @@ pub fn small() -> OwnedOpened
         counts: [4, 4],
         initial: [16, 16, 16],
     };
-    owned::open(opening::room(), limits)
+    owned::open(opening::room(), Role::Server, limits)
 }
 
 // One row more, unless there is no room for it.

@@ -6,6 +6,7 @@ use crate::spoils::Spoil;
 use calls::Call;
 use hex::Pairs;
 use kinds::Kind;
+use kinds::Role;
 use kinds::Space;
 use lines::words;
 use lines::words::Signed;
@@ -20,6 +21,7 @@ pub enum Command {
         word: usize,
     },
     Open {
+        role: Role,
         init0: u64,
         init1: u64,
         init2: u64,
@@ -378,7 +380,8 @@ fn length(s: &[u8]) -> Command {
     }
 }
 
-fn open(s: &[u8]) -> Command {
+// Opening at either end: credits and counts go by halves, in the same order.
+fn open(s: &[u8], role: Role) -> Command {
     let Parsed::Is { value: init0 } = line::number(s, 1) else {
         return Command::What { word: 1 };
     };
@@ -398,6 +401,7 @@ fn open(s: &[u8]) -> Command {
         return Command::What { word: 6 };
     };
     Command::Open {
+        role,
         init0,
         init1,
         init2,
@@ -460,7 +464,7 @@ fn of_two(s: &[u8], bytes: &mut [u8]) -> Command {
     Command::What { word: 0 }
 }
 
-// The commands with three, and the one with six.
+// The commands with three, and the two with six.
 fn of_more(s: &[u8], n: usize) -> Command {
     if n == 4 && line::is(s, 0, b"ack") {
         return ack(s);
@@ -469,7 +473,10 @@ fn of_more(s: &[u8], n: usize) -> Command {
         return recover(s);
     }
     if n == 7 && line::is(s, 0, b"open") {
-        return open(s);
+        return open(s, Role::Server);
+    }
+    if n == 7 && line::is(s, 0, b"join") {
+        return open(s, Role::Client);
     }
     Command::What { word: 0 }
 }

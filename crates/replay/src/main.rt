@@ -3,11 +3,11 @@ mod alone;
 mod commands;
 mod line;
 mod reasons;
-mod replies;
 mod say;
 mod session;
 mod spoils;
 mod state;
+mod turns;
 mod within;
 
 use lines::gather;
@@ -33,7 +33,7 @@ fn feed(session: Session, row: &mut [u8; 4096], line: Line, number: u64, s: &[u8
         at += got.used;
         kept = got.line;
         if got.ended {
-            now = replies::ended(now, row, kept, count);
+            now = turns::ended(now, row, kept, count);
             kept = Line::Kept { len: 0 };
             count = reasons::next(count);
         }
@@ -64,7 +64,7 @@ fn some(session: Session, row: &mut [u8; 4096], line: Line, number: u64) -> Fed 
 
 // Runs the last line, which may lack its newline.
 fn last(session: Session, row: &[u8; 4096], line: Line, number: u64) {
-    replies::ended(session, row, line, number);
+    turns::ended(session, row, line, number);
 }
 
 // The turns are more than there can be reads: the loop ends with the input.

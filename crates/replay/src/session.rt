@@ -1,6 +1,7 @@
 // What is kept between lines: whether a connection was opened, that connection, its three records and its table.
 use answers::Answer;
 use entries::Entry;
+use kinds::Role;
 use kinds::Space;
 use opening::Opened;
 use records::Record;
@@ -31,7 +32,7 @@ pub fn no_records() -> Records {
 
 // The session before a connection is opened.
 pub fn empty() -> Session {
-    let none = Opened::refused(Answer::Closed);
+    let none = Opened::refused(Role::Server, Answer::Closed);
     let conn = none.conn;
     Session {
         opened: false,

@@ -27,18 +27,24 @@ fn largest(out: &mut [u8; 16384], at: usize, before: &[u8], top: u64) -> usize {
     say::number(out, o, top - 1)
 }
 
+// How many streams of a type on the wire are open.
+fn opened(out: &mut [u8; 16384], at: usize, before: &[u8], c: Conn, ty: u64) -> usize {
+    let role = c.role;
+    say::labelled(out, at, before, c.opened_of(halves::seated(role, ty)))
+}
+
+// The counts are those of the peer's two halves, in either seat; what is open goes by types.
 fn accounts(out: &mut [u8; 16384], at: usize, c: Conn) -> usize {
     let limits = c.limits;
     let counts = limits.counts;
-    let opened = c.opened;
     let o = say::labelled(out, at, b" total=", c.total);
     let p = say::labelled(out, o, b" credit=", limits.credit);
     let q = say::labelled(out, p, b" counts=", counts[0]);
     let r = say::labelled(out, q, b",", counts[1]);
-    let s = say::labelled(out, r, b" opened=", opened[0]);
-    let t = say::labelled(out, s, b",", opened[1]);
-    let u = say::labelled(out, t, b",", opened[2]);
-    say::labelled(out, u, b",", opened[3])
+    let s = opened(out, r, b" opened=", c, 0);
+    let t = opened(out, s, b",", c, 1);
+    let u = opened(out, t, b",", c, 2);
+    opened(out, u, b",", c, 3)
 }
 
 // Writes a blank and STATE after an answer, which is then whole.

@@ -9,6 +9,7 @@ use crate::state;
 use calls::Call;
 use entries::Entry;
 use kinds::Kind;
+use kinds::Role;
 use kinds::Space;
 use records::Record;
 use spaces::Records;
@@ -21,6 +22,7 @@ use wire::Wrote;
 // Opens a connection; a refusal leaves the one there was.
 pub fn open(
     now: Session,
+    role: Role,
     init0: u64,
     init1: u64,
     init2: u64,
@@ -34,7 +36,7 @@ pub fn open(
         counts: [count0, count2],
         initial: [init0, init1, init2],
     };
-    let h = owned::open(opening::room(), limits);
+    let h = owned::open(opening::room(), role, limits);
     let opened = h.opened;
     let answer = opened.answer;
     let a = answer.number();

@@ -11,7 +11,8 @@ use kinds::Space;
 use streams::Conn;
 
 // What a frame asks of the streams: to take a stream's data up to an end; to note that a stream is blocked, or something
-// for our sending half of one; to note an acknowledgement; to close the connection; or nothing.
+// for our sending half of one; to note an acknowledgement; to close the connection; or nothing. A stream stands by the ID
+// that it has at a server, whichever end we are.
 pub enum View {
     Ends { id: u64, end: u64, fin: bool },
     Blocks { id: u64 },

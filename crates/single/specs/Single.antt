@@ -18,13 +18,13 @@ use Rattle.steps.specs.Step.{requestAt, decidedOf, shownAt}
 
 -- one frame, judged with the entry that it looks at
 unfoldable pub decidedAt : Conn → List Entry → List ℕ → ℕ → Kind → Decided
-decidedAt c t s at kind = decidedOf c (entryAt t (requestAt s at kind .place)) (requestAt s at kind)
+decidedAt c t s at kind = decidedOf c (entryAt t (requestAt (c .role) s at kind .place)) (requestAt (c .role) s at kind)
 
 abbrev pub steppedAt : Conn → List Entry → List ℕ → ℕ → Kind → Stepped
 steppedAt c t s at kind = decidedAt c t s at kind .stepped
 
 abbrev pub stepTable : Conn → List Entry → List ℕ → ℕ → Kind → List Entry
-stepTable c t s at kind = set t (requestAt s at kind .place) (decidedAt c t s at kind .entry)
+stepTable c t s at kind = set t (requestAt (c .role) s at kind .place) (decidedAt c t s at kind .entry)
 
 -- "A call for one frame (120, 101, then as above) also hands the frame as read to the caller"
 abbrev pub gateAt : Conn → List Entry → Gate
@@ -32,7 +32,7 @@ gateAt c t = gateOf (fits c t) (c .mark)
 
 unfoldable pub tookFrameOf : Conn → List Entry → List ℕ → ℕ → Kind → TookFrame
 tookFrameOf c t s at kind =
-    gateAt c t .passes ⇒ record { answer = steppedAt c t s at kind .answer; shown = shownAt s at kind; conn = steppedAt c t s at kind .conn }
+    gateAt c t .passes ⇒ record { answer = steppedAt c t s at kind .answer; shown = shownAt (c .role) s at kind; conn = steppedAt c t s at kind .conn }
     ∣ record { answer = gateAt c t .answer; shown = Nothing; conn = c }
 
 unfoldable pub frameTable : Conn → List Entry → List ℕ → ℕ → Kind → List Entry

@@ -14,7 +14,7 @@ use streams::Conn;
 pub fn step(c: Conn, t: &mut [Entry], s: &[u8], at: usize, kind: Kind) -> Stepped
     ensures { λ r. ⌜ (r ≡ steppedAt c (now (t .entry)) (now (s .entry)) at kind) × (now (t .exit) ≡ stepTable c (now (t .entry)) (now (s .entry)) at kind) ⌝ }
 {
-    let a = steps::frame::request(s, at, kind);
+    let a = steps::frame::request(c.role, s, at, kind);
     let i = a.place;
     if t.len() <= i {
         let none = Entry {
@@ -42,7 +42,7 @@ pub fn take_frame(c: Conn, t: &mut [Entry], s: &[u8], at: usize, kind: Kind) -> 
             conn: c,
         };
     }
-    let shown = steps::frame::show(s, at, kind);
+    let shown = steps::frame::show(c.role, s, at, kind);
     let r = step(c, t, s, at, kind);
     TookFrame {
         answer: r.answer,

@@ -6,6 +6,7 @@ use Rattle.answers.specs.declared.Answer.the-variants.{Accepted}
 use Rattle.wire.specs.Number.{numberAt, withNumber}
 use Rattle.wire.specs.declared.Number.{Number}
 use Rattle.kinds.specs.declared.Kind.{Kind}
+use Rattle.kinds.specs.declared.Role.{Role}
 use Rattle.frames.specs.declared.Reading.{Reading}
 use Rattle.frames.specs.declared.Reading.the-variants.{Got, Refused}
 use Rattle.frames.specs.Reading.{frameAt}
@@ -24,12 +25,12 @@ use Rattle.steps.specs.declared.Shown.{Shown}
 use Rattle.steps.specs.declared.Shown.the-variants as Shown'
 
 -- what a frame asks for, from what reading it gave; one that was refused as it stands asks for nothing
-unfoldable pub requestOf : Kind → ℕ → Reading → Request
-requestOf kind at (Got frame ty next) = record { place = framePlace (viewOf kind frame); next = next; ty = ty; answer = Accepted; view = viewOf kind frame }
-requestOf kind at (Refused answer ty) = record { place = 0; next = at; ty = ty; answer = answer; view = Nothing }
+unfoldable pub requestOf : Role → Kind → ℕ → Reading → Request
+requestOf role kind at (Got frame ty next) = record { place = framePlace (viewOf role kind frame); next = next; ty = ty; answer = Accepted; view = viewOf role kind frame }
+requestOf role kind at (Refused answer ty) = record { place = 0; next = at; ty = ty; answer = answer; view = Nothing }
 
-unfoldable pub requestAt : List ℕ → ℕ → Kind → Request
-requestAt s at kind = requestOf kind at (frameAt s at kind)
+unfoldable pub requestAt : Role → List ℕ → ℕ → Kind → Request
+requestAt role s at kind = requestOf role kind at (frameAt role s at kind)
 
 -- a verdict as a step of a walk, which goes on while the connection is open
 abbrev pub decidedAs : Judged → ℕ → Decided
@@ -46,5 +47,5 @@ unfoldable pub shownOf : Number → Reading → Shown
 shownOf n (Got frame ty next) = Shown'.Whole frame ty next
 shownOf n (Refused answer ty) = withNumber n Shown'.Nothing (λ value next. Shown'.Typed value)
 
-unfoldable pub shownAt : List ℕ → ℕ → Kind → Shown
-shownAt s at kind = shownOf (numberAt s at) (frameAt s at kind)
+unfoldable pub shownAt : Role → List ℕ → ℕ → Kind → Shown
+shownAt role s at kind = shownOf (numberAt s at) (frameAt role s at kind)

@@ -1,8 +1,7 @@
 // One frame of a payload: what it asks for, and what it leaves of a connection and of the entry that it looks at.
 ghost use mathlib.Core.Path.{_≡_};
 ghost use Rattle.steps.specs.Step.{requestOf, requestAt, decidedAs, decidedOf, shownAt};
-ghost use Rattle.steps.specs.Past.{pastPadding};
-ghost use Rattle.streams.specs.Conn.{isOpen};
+ghost use Rattle.steps.specs.Past.{passable, pastPadding};
 use crate::Decided;
 use crate::Request;
 use crate::Shown;
@@ -11,6 +10,8 @@ use answers::Answer;
 use entries::Entry;
 use frames::Reading;
 use kinds::Kind;
+use kinds::Role;
+use layouts::types;
 use rules::View;
 use streams::Conn;
 use streams::Mark;
@@ -18,12 +19,12 @@ use verdicts::Judged;
 use wire::Number;
 
 // What a frame asks for, from what reading it gave.
-fn requested(kind: Kind, at: usize, r: Reading) -> Request
-    ensures { λ a. ⌜ a ≡ requestOf kind at r ⌝ }
+fn requested(role: Role, kind: Kind, at: usize, r: Reading) -> Request
+    ensures { λ a. ⌜ a ≡ requestOf role kind at r ⌝ }
 {
     match r {
         Reading::Got { frame, ty, next } => {
-            let view = views::of_frame(kind, frame);
+            let view = views::of_frame(role, kind, frame);
             Request {
                 place: views::place(view),
                 next,
@@ -43,10 +44,10 @@ fn requested(kind: Kind, at: usize, r: Reading) -> Request
 }
 
 // What the frame at a place asks for.
-pub fn request(s: &[u8], at: usize, kind: Kind) -> Request
-    ensures { λ a. ⌜ a ≡ requestAt (now (s .entry)) at kind ⌝ }
+pub fn request(role: Role, s: &[u8], at: usize, kind: Kind) -> Request
+    ensures { λ a. ⌜ a ≡ requestAt role (now (s .entry)) at kind ⌝ }
 {
-    requested(kind, at, frames::read(s, at, kind))
+    requested(role, kind, at, frames::read(role, s, at, kind))
 }
 
 // A verdict, as a step of a walk.
@@ -86,12 +87,15 @@ pub fn decide(c: Conn, e: Entry, a: Request) -> Decided
     decided(verdicts::judge(c, e, a.ty, view), a.next)
 }
 
-// The first place from `at` on that holds no PADDING, if the connection is open. Each PADDING byte is a frame that changes
-// nothing.
-pub fn past_padding(mark: Mark, s: &[u8], at: usize) -> usize
-    ensures { λ r. ⌜ r ≡ pastPadding (isOpen mark) (now (s .entry)) at ⌝ }
+// The first place from `at` on that holds no PADDING, if the connection is open and the packet may carry it. Each PADDING byte is
+// a frame that changes nothing.
+pub fn past_padding(mark: Mark, role: Role, kind: Kind, s: &[u8], at: usize) -> usize
+    ensures { λ r. ⌜ r ≡ pastPadding (passable mark role kind) (now (s .entry)) at ⌝ }
 {
     if !mark.is_open() {
+        return at;
+    }
+    if !admission::admits(role, kind, types::PADDING) {
         return at;
     }
     let mut i = at;
@@ -105,10 +109,10 @@ pub fn past_padding(mark: Mark, s: &[u8], at: usize) -> usize
 }
 
 // What a call for the frame at a place shows the caller.
-pub fn show(s: &[u8], at: usize, kind: Kind) -> Shown
-    ensures { λ r. ⌜ r ≡ shownAt (now (s .entry)) at kind ⌝ }
+pub fn show(role: Role, s: &[u8], at: usize, kind: Kind) -> Shown
+    ensures { λ r. ⌜ r ≡ shownAt role (now (s .entry)) at kind ⌝ }
 {
-    match frames::read(s, at, kind) {
+    match frames::read(role, s, at, kind) {
         Reading::Got { frame, ty, next } => Shown::Whole { frame, ty, next },
         Reading::Refused { answer: _, ty: _ } => match wire::read(s, at) {
             Number::Is { value, next: _ } => Shown::Typed { ty: value },

@@ -1,4 +1,4 @@
--- A connection in its parts: what it advertises, what is open of each half, the total, the numbers handed out and the mark; and how each part changes.
+-- A connection in its parts: what it advertises, what is open of each half, the total, the numbers handed out, the mark and the role; and how each part changes.
 use Prim.Native.Nat.{ℕ, zero, suc, _+_, _/_, max}
 use mathlib.Core.Bool.{Bool, true, false, _&&_}
 use lib.ListN.{getD, set}
@@ -22,10 +22,10 @@ isOpen ByPeer = false
 
 -- with another mark, and with other limits: nothing else changes
 abbrev pub markedAs : Conn → Mark → Conn
-markedAs c mark = record { limits = c .limits; opened = c .opened; total = c .total; next = c .next; mark = mark }
+markedAs c mark = record { limits = c .limits; opened = c .opened; total = c .total; next = c .next; mark = mark; role = c .role }
 
 abbrev pub limitedTo : Conn → Limits → Conn
-limitedTo c limits = record { limits = limits; opened = c .opened; total = c .total; next = c .next; mark = c .mark }
+limitedTo c limits = record { limits = limits; opened = c .opened; total = c .total; next = c .next; mark = c .mark; role = c .role }
 
 -- ---- what is advertised
 
@@ -58,7 +58,7 @@ countOf c half =
 
 -- with the stream open and "all lower ordinals of the type", and the total as given
 abbrev pub openTo : Conn → ℕ → ℕ → Conn
-openTo c id total = record { limits = c .limits; opened = set (c .opened) (halfOf id) (max (openedOf c (halfOf id)) (ordinalOf id + 1)); total = total; next = c .next; mark = c .mark }
+openTo c id total = record { limits = c .limits; opened = set (c .opened) (halfOf id) (max (openedOf c (halfOf id)) (ordinalOf id + 1)); total = total; next = c .next; mark = c .mark; role = c .role }
 
 -- ---- the numbers handed out
 
@@ -72,7 +72,7 @@ abbrev pub nextOf : Conn → Space → ℕ
 nextOf c space = getD (c .next) (indexOf space) 0
 
 abbrev pub handedOn : Conn → Space → Conn
-handedOn c space = record { limits = c .limits; opened = c .opened; total = c .total; next = set (c .next) (indexOf space) (nextOf c space + 1); mark = c .mark }
+handedOn c space = record { limits = c .limits; opened = c .opened; total = c .total; next = set (c .next) (indexOf space) (nextOf c space + 1); mark = c .mark; role = c .role }
 
 -- "a call hands out the next number of a space, from 0; after 2^62-1 it is 103"; it ignores the closing mark
 unfoldable pub handedOutOf : Conn → Space → Called

@@ -5,6 +5,7 @@ ghost use Prim.Native.Nat.{_<_, max};
 ghost use Rattle.halves.specs.Stream.{halfOf};
 ghost use Rattle.streams.specs.Conn.{isOpen, openedOf, countOf, initialOf, markedAs, openTo, indexOf, nextOf, handedOutOf, limitsFit};
 use answers::Answer;
+use kinds::Role;
 use kinds::Space;
 
 // The closing mark: none, a code and the type of the frame that gave it, or the peer's own closing.
@@ -23,13 +24,14 @@ pub struct Limits {
 }
 
 // A connection: what it advertises, how many streams of each half are open, the total counted against its credit, the
-// next packet number of each space, and its closing mark.
+// next packet number of each space, its closing mark, and which end of it we are.
 pub struct Conn {
     pub limits: Limits,
     pub opened: [u64; 4],
     pub total: u64,
     pub next: [u64; 3],
     pub mark: Mark,
+    pub role: Role,
 }
 
 // What a call answers: a number where it hands one out, else 0; and the connection after it.
@@ -144,12 +146,14 @@ impl Conn {
         let limits = self.limits;
         let opened = self.opened;
         let next = self.next;
+        let role = self.role;
         Conn {
             limits,
             opened,
             total: self.total,
             next,
             mark,
+            role,
         }
     }
 

@@ -12,12 +12,13 @@ use Rattle.answers.specs.Answers.{accepts}
 use Rattle.answers.proofs.Choice.{holds}
 use Rattle.streams.specs.declared.Limits.{Limits}
 use Rattle.opening.specs.Opening.{unopenedOf, openingOf}
+use Rattle.kinds.specs.declared.Role.{Role}
 use Rattle.opening.specs.Opening.{openingWhen, entriesOf}
 
-pub entries-within : (n : ℕ) (limits : Limits) → entriesOf (openingWhen n limits .answer) ≤ n
+pub entries-within : (role : Role) (n : ℕ) (limits : Limits) → entriesOf (openingWhen role n limits .answer) ≤ n
 unfolding openingWhen entriesOf
-entries-within n limits = go (eqb n 192) refl
+entries-within role n limits = go (eqb n 192) refl
   where
-    go : (b : Bool) → eqb n 192 ≡ b → entriesOf ((b ⇒ openingOf limits ∣ unopenedOf DoesNotFit) .answer) ≤ n
-    go true e = holds (λ (k : ℕ). k ≤ n) (accepts (openingOf limits .answer)) 192 0 (λ _. omega (arith, eqb-true n 192 e)) (λ _. omega arith)
+    go : (b : Bool) → eqb n 192 ≡ b → entriesOf ((b ⇒ openingOf role limits ∣ unopenedOf role DoesNotFit) .answer) ≤ n
+    go true e = holds (λ (k : ℕ). k ≤ n) (accepts (openingOf role limits .answer)) 192 0 (λ _. omega (arith, eqb-true n 192 e)) (λ _. omega arith)
     go false e = omega arith

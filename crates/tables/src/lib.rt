@@ -8,6 +8,7 @@ ghost use Rattle.opening.specs.Opening.{openingWhen};
 ghost use Rattle.tables.specs.Opened.{filledTo, openedTable};
 ghost use Rattle.tables.specs.Table.{summedTo, untouchedTo};
 use entries::Entry;
+use kinds::Role;
 use limits::fits::Summed;
 use opening::Opened;
 use streams::Conn;
@@ -81,10 +82,10 @@ fn fill(t: &mut [Entry], n: usize, limits: Limits)
 }
 
 // Opens a connection: 120 unless the table has 192 entries, then 103. Every entry is set to its half's initial credit.
-pub fn open(t: &mut [Entry], limits: Limits) -> Opened
-    ensures { λ r. ⌜ (r ≡ openingWhen (length (now (t .entry))) limits) × (now (t .exit) ≡ openedTable (now (t .entry)) limits) ⌝ }
+pub fn open(t: &mut [Entry], role: Role, limits: Limits) -> Opened
+    ensures { λ r. ⌜ (r ≡ openingWhen role (length (now (t .entry))) limits) × (now (t .exit) ≡ openedTable role (now (t .entry)) limits) ⌝ }
 {
-    let o = opening::for_table(t.len(), limits);
+    let o = opening::for_table(role, t.len(), limits);
     let n = opening::count(o.answer);
     fill(t, n, limits);
     o

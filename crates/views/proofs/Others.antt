@@ -6,6 +6,7 @@ use mathlib.Core.List.{List, [], _∷_}
 use denote.Enum.Declared.{tagOf}
 use types.Run.{OneOf, miss}
 use Rattle.kinds.specs.declared.Kind.{Kind}
+use Rattle.kinds.specs.declared.Role.{Role}
 use Rattle.frames.specs.declared.Frame.{Frame}
 use Rattle.frames.specs.declared.Frame.the-variants.{Padding, Ping, Ack, AckEcn, ResetStream, StopSending, Crypto, NewToken, Stream, MaxData, MaxStreamData, MaxStreams, DataBlocked, StreamDataBlocked, StreamsBlocked, NewConnectionId, RetireConnectionId, PathChallenge, PathResponse, ConnectionClose, ApplicationClose, HandshakeDone}
 use Rattle.frames.proofs.Frame as frame
@@ -19,8 +20,8 @@ use Rattle.rules.proofs.View as view
 abbrev plains : List ℕ
 plains = 0 ∷ 1 ∷ 6 ∷ 7 ∷ 9 ∷ 11 ∷ 12 ∷ 14 ∷ 15 ∷ 16 ∷ 17 ∷ 18 ∷ 21 ∷ []
 
-pub plain : (kind : Kind) (f : Frame) → OneOf plains (tagOf frame.the-type f) → Nothing ≡ viewOf kind f
-plain kind f = elim f [
+pub plain : (role : Role) (kind : Kind) (f : Frame) → OneOf plains (tagOf frame.the-type f) → Nothing ≡ viewOf role kind f
+plain role kind f = elim f [
   | Padding ↦ λ o. refl
   | Ping ↦ λ o. refl
   | Ack largest delay count first at ↦ λ o. absurd (miss plains 2 tt o)

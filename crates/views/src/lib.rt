@@ -3,6 +3,7 @@ ghost use mathlib.Core.Path.{_≡_};
 ghost use Rattle.views.specs.View.{endOf, viewOf, framePlace};
 use frames::Frame;
 use kinds::Kind;
+use kinds::Role;
 use kinds::Space;
 use rules::View;
 
@@ -16,9 +17,10 @@ fn end_of(offset: u64, len: u64) -> u64
     offset + len
 }
 
-// What a frame in a packet of this kind asks of the streams.
-pub fn of_frame(kind: Kind, frame: Frame) -> View
-    ensures { λ r. ⌜ r ≡ viewOf kind frame ⌝ }
+// What a frame in a packet of this kind asks of the streams. This is where a frame's ID becomes the one that the stream has
+// at a server, by which all rules know it.
+pub fn of_frame(role: Role, kind: Kind, frame: Frame) -> View
+    ensures { λ r. ⌜ r ≡ viewOf role kind frame ⌝ }
 {
     match frame {
         Frame::Ack {
@@ -45,11 +47,13 @@ pub fn of_frame(kind: Kind, frame: Frame) -> View
             largest,
         },
         Frame::ResetStream { id, code: _, size } => View::Ends {
-            id,
+            id: halves::seated(role, id),
             end: size,
             fin: true,
         },
-        Frame::StopSending { id, code: _ } => View::ForSender { id },
+        Frame::StopSending { id, code: _ } => View::ForSender {
+            id: halves::seated(role, id),
+        },
         Frame::Stream {
             id,
             offset,
@@ -57,12 +61,16 @@ pub fn of_frame(kind: Kind, frame: Frame) -> View
             at: _,
             len,
         } => View::Ends {
-            id,
+            id: halves::seated(role, id),
             end: end_of(offset, len as u64),
             fin,
         },
-        Frame::MaxStreamData { id, maximum: _ } => View::ForSender { id },
-        Frame::StreamDataBlocked { id, maximum: _ } => View::Blocks { id },
+        Frame::MaxStreamData { id, maximum: _ } => View::ForSender {
+            id: halves::seated(role, id),
+        },
+        Frame::StreamDataBlocked { id, maximum: _ } => View::Blocks {
+            id: halves::seated(role, id),
+        },
         Frame::ConnectionClose {
             code: _,
             ty: _,

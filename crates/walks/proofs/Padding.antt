@@ -1,4 +1,4 @@
--- PADDING bytes are passed at once: each is a frame that changes nothing, so that the walk after them is the walk from where they begin.
+-- PADDING bytes are passed at once where the packet may carry them: each is a frame that changes nothing, so that the walk after them is the walk from where they begin.
 -- Assumes nothing.
 use mathlib.Core.Path.{_≡_, refl, sym, _∙_}
 use mathlib.Core.Bool.{Bool, true, false, _&&_, and-eq-true-iff}
@@ -13,6 +13,7 @@ use lib.Seq.{set-getD}
 use Rattle.answers.specs.Choice.{_⇒_∣_}
 use Rattle.answers.specs.declared.Answer.the-variants.{Accepted}
 use Rattle.kinds.specs.declared.Kind.{Kind}
+use Rattle.admission.specs.Admission.{admitted}
 use Rattle.frames.proofs.Order.{padding}
 use Rattle.streams.specs.declared.Conn.{Conn}
 use Rattle.entries.specs.declared.Entry.{Entry}
@@ -24,7 +25,7 @@ use Rattle.verdicts.specs.Verdict.{verdictOf, connHeard, entryHeard, settledOf,
 use Rattle.steps.specs.declared.Stopped.{Stopped}
 use Rattle.steps.specs.declared.Decided.{Decided}
 use Rattle.steps.specs.Step.{requestOf, requestAt, decidedOf}
-use Rattle.steps.specs.Past.{pastOf, pastZeros, pastPadding}
+use Rattle.steps.specs.Past.{pastOf, pastZeros, passable, pastPadding}
 use Rattle.answers.proofs.Choice.{holds, through}
 use Rattle.walks.specs.Walk.{stopped, Walked, walkFrom}
 use Rattle.single.specs.Single.{decidedAt}
@@ -38,14 +39,14 @@ reached k c t s at kind = bare (walkFrom k c t s at kind)
 
 module _ (s : List ℕ) (kind : Kind) (c : Conn) (t : List Entry) where
   -- what a PADDING byte asks, and what it leaves
-  asks : (at : ℕ) → at < length s → getD s at 0 ≡ 0 → requestAt s at kind ≡ record { place = placeOf 0; next = at + 1; ty = 0; answer = Accepted; view = Nothing }
+  asks : admitted (c .role) kind 0 ≡ true → (at : ℕ) → at < length s → getD s at 0 ≡ 0 → requestAt (c .role) s at kind ≡ record { place = placeOf 0; next = at + 1; ty = 0; answer = Accepted; view = Nothing }
   unfolding requestAt requestOf
-  asks at l z = rw (padding s at kind l z) refl
+  asks a at l z = rw (padding (c .role) s at kind a l z) refl
 
-  leaves : (at : ℕ) → at < length s → getD s at 0 ≡ 0
+  leaves : admitted (c .role) kind 0 ≡ true → (at : ℕ) → at < length s → getD s at 0 ≡ 0
       → decidedAt c t s at kind ≡ record { stepped = record { conn = c; answer = Accepted; more = isOpen (c .mark); next = at + 1 }; entry = entryAt t (placeOf 0) }
   unfolding decidedAt decidedOf judgedOf settledOf verdictOf connHeard entryHeard
-  leaves at l z = rw (asks at l z) refl
+  leaves a at l z = rw (asks a at l z) refl
 
   -- what a walk makes of a frame that leaves x, having looked at a place
   abbrev goes : ℕ → ℕ → Decided → ℕ → Stopped × List Entry
@@ -53,12 +54,12 @@ module _ (s : List ℕ) (kind : Kind) (c : Conn) (t : List Entry) where
       x .stepped .more ⇒ reached k (x .stepped .conn) (set t place (x .entry)) s (x .stepped .next) kind
       ∣ (stopped (x .stepped .conn) at (x .stepped .answer), set t place (x .entry))
 
-  stepped-on : (k at : ℕ) → at < length s → reached (suc k) c t s at kind ≡ goes k at (decidedAt c t s at kind) (requestAt s at kind .place)
+  stepped-on : (k at : ℕ) → at < length s → reached (suc k) c t s at kind ≡ goes k at (decidedAt c t s at kind) (requestAt (c .role) s at kind .place)
   unfolding walkFrom
   stepped-on k at l = rw (lt-leb (length s) at l) (through bare (decidedAt c t s at kind .stepped .more) _ _)
 
-  one : (k at : ℕ) → at < length s → getD s at 0 ≡ 0 → isOpen (c .mark) ≡ true → reached (suc k) c t s at kind ≡ reached k c t s (suc at) kind
-  one k at l z h = stepped-on k at l ∙ (λ i. goes k at (leaves at l z i) (asks at l z i .place)) ∙ rw (h, set-getD t (placeOf 0) (fresh 0), add-one) refl
+  one : admitted (c .role) kind 0 ≡ true → (k at : ℕ) → at < length s → getD s at 0 ≡ 0 → isOpen (c .mark) ≡ true → reached (suc k) c t s at kind ≡ reached k c t s (suc at) kind
+  one a k at l z h = stepped-on k at l ∙ (λ i. goes k at (leaves a at l z i) (asks a at l z i .place)) ∙ rw (h, set-getD t (placeOf 0) (fresh 0), add-one) refl
 
   -- a walk that is the same from a place further on, with enough steps left
   pub record Further (k at place : ℕ) : Type 0 where
@@ -75,12 +76,12 @@ module _ (s : List ℕ) (kind : Kind) (c : Conn) (t : List Entry) where
   abbrev Passes : ℕ → Type 0
   Passes m = (k at : ℕ) → length s ≤ k + at → Further k at (pastOf s m at)
 
-  module _ (open-yet : isOpen (c .mark) ≡ true) where
+  module _ (open-yet : isOpen (c .mark) ≡ true) (carried : admitted (c .role) kind 0 ≡ true) where
     one-more : (m : ℕ) → Passes m → (k at : ℕ) → length s ≤ k + at → at < length s → getD s at 0 ≡ 0 → Further k at (pastOf s m (suc at))
     one-more m others zero at l u z = absurd (omega (arith, u, l))
     one-more m others (suc n) at l u z =
         let r = others n (suc at) (omega (arith, l)) in
-        record { steps = r .steps; no-more = omega (arith, r .no-more); ahead = omega (arith, r .ahead); left = r .left; same = r .same ∙ sym (one n at u z open-yet) }
+        record { steps = r .steps; no-more = omega (arith, r .no-more); ahead = omega (arith, r .ahead); left = r .left; same = r .same ∙ sym (one carried n at u z open-yet) }
 
     passes : (m : ℕ) → Passes m
     unfolding pastOf
@@ -91,6 +92,8 @@ module _ (s : List ℕ) (kind : Kind) (c : Conn) (t : List Entry) where
         go f true e = let p = and-eq-true-iff (ltb at (length s)) (eqb (getD s at 0) 0) .0 e in f (ltb-true at (length s) (p .0)) (eqb-true (getD s at 0) 0 (p .1))
         go f false e = here k at l
 
-  pub past : (k at : ℕ) → length s ≤ k + at → Further k at (pastPadding (isOpen (c .mark)) s at)
-  unfolding pastPadding pastZeros
-  past k at l = holds (Further k at) (isOpen (c .mark)) (pastZeros s at) at (λ o. passes o _ k at l) (λ _. here k at l)
+  pub past : (k at : ℕ) → length s ≤ k + at → Further k at (pastPadding (passable (c .mark) (c .role) kind) s at)
+  unfolding passable pastPadding pastZeros
+  past k at l =
+      holds (Further k at) (passable (c .mark) (c .role) kind) (pastZeros s at) at
+      (λ o. let b = and-eq-true-iff (isOpen (c .mark)) (admitted (c .role) kind 0) .0 o in passes (b .0) (b .1) _ k at l) (λ _. here k at l)

@@ -23,12 +23,12 @@ use Rattle.single.specs.Single.{decidedAt, steppedAt}
 -- a frame after which the connection is open was read, and ends above its place
 pub steps-on : (c : Conn) (t : List Entry) (s : List ℕ) (at : ℕ) (kind : Kind) → steppedAt c t s at kind .more ≡ true → at < steppedAt c t s at kind .next
 unfolding decidedAt requestAt requestOf decidedOf judgedOf settledOf
-steps-on c t s at kind = go (frameAt s at kind) refl
+steps-on c t s at kind = go (frameAt (c .role) s at kind) refl
   where
-    barred : (answer : Answer) (ty : ℕ) (e : Entry) → (answer ≡ FrameEncoding) ⊎ (answer ≡ ProtocolViolation) → decidedOf c e (requestOf kind at (Refused answer ty)) .stepped .more ≡ false
+    barred : (answer : Answer) (ty : ℕ) (e : Entry) → (answer ≡ FrameEncoding) ⊎ (answer ≡ ProtocolViolation) → decidedOf c e (requestOf (c .role) kind at (Refused answer ty)) .stepped .more ≡ false
     barred answer ty e (inl p) = rw p refl
     barred answer ty e (inr p) = rw p refl
 
-    go : (r : Reading) → frameAt s at kind ≡ r → decidedOf c (entryAt t (requestOf kind at r .place)) (requestOf kind at r) .stepped .more ≡ true → at < decidedOf c (entryAt t (requestOf kind at r .place)) (requestOf kind at r) .stepped .next
-    go (Got frame ty next) e p = sound s at kind e .above
-    go (Refused answer ty) e p = absurd (true≢false (sym p ∙ barred answer ty _ (codes s at kind e)))
+    go : (r : Reading) → frameAt (c .role) s at kind ≡ r → decidedOf c (entryAt t (requestOf (c .role) kind at r .place)) (requestOf (c .role) kind at r) .stepped .more ≡ true → at < decidedOf c (entryAt t (requestOf (c .role) kind at r .place)) (requestOf (c .role) kind at r) .stepped .next
+    go (Got frame ty next) e p = sound (c .role) s at kind e .above
+    go (Refused answer ty) e p = absurd (true≢false (sym p ∙ barred answer ty _ (codes (c .role) s at kind e)))

@@ -20,7 +20,7 @@ pub fn walk(c: Conn, t: &mut [Entry], s: &[u8], from: usize, kind: Kind) -> Stop
     let mut conn = c;
     let mut at = from;
     let stop = 'walk: loop {
-        at = steps::frame::past_padding(conn.mark, s, at);
+        at = steps::frame::past_padding(conn.mark, conn.role, kind, s, at);
         if s.len() <= at {
             break 'walk Stop {
                 place: at,

@@ -6,7 +6,7 @@ use Rattle.calls.proofs.place.Statement.{statement}
 use Rattle.calls.proofs.place.Tie as tie
 
 returns : tie.Need-returns
-returns c = c .place-of .ensures ∙ rw (c .before .before .call .given .1)
+returns c = c .place-of .ensures ∙ rw (c .before .seated .ensures, c .before .before .before .call .given .1)
 
 returns-2 : tie.Need-returns-2
 returns-2 c = c .place-of2 .ensures ∙ rw (c .before .enum-told .given .1)
@@ -22,6 +22,7 @@ place-spec =
     tie.close
     (tie.spec
     (λ c. search needs)
+    (λ c κs. search needs)
     (λ c κs. search needs)
     (λ c. search needs)
     (λ c κs. search needs)

@@ -47,7 +47,8 @@ use denote.Exit.{yes}
 use Rattle.answers.specs.declared.Answer.the-variants.{DoesNotFit}
 use Rattle.entries.specs.Entry.{fresh, entryAt}
 use Rattle.limits.specs.Fits as limits
-use Rattle.calls.specs.Calls.{streamIn, repliedOf}
+use Rattle.calls.specs.Calls.{seatedCall, streamIn}
+use Rattle.replies.specs.Replies.{repliedOf}
 use Rattle.local.specs.Calling.{callPlace, calledAt, calledTable}
 use Rattle.tables.proofs.Leave.{stand, leaves}
 use Rattle.tables.proofs.Cases.{fails, not-not}
@@ -63,16 +64,18 @@ use Rattle.calls.proofs.Call.Laws as TCall′
 use Rattle.streams.specs.declared.Called.{Called}
 use Rattle.streams.proofs.Called as TCalled
 use Rattle.streams.proofs.Called.Laws as TCalled′
-use Rattle.calls.specs.declared.Replied.{Replied}
-use Rattle.calls.proofs.Replied as TReplied
-use Rattle.calls.proofs.Replied.Laws as TReplied′
+use Rattle.replies.specs.declared.Replied.{Replied}
+use Rattle.replies.proofs.Replied as TReplied
+use Rattle.replies.proofs.Replied.Laws as TReplied′
 use Rattle.answers.proofs.Answer as TAnswer
 use Rattle.answers.proofs.Answer.Laws as TAnswer′
 use Rattle.entries.specs.declared.Entry.{Entry}
 use Rattle.entries.proofs.Entry as TEntry
 use Rattle.entries.proofs.Entry.Laws as TEntry′
+use Rattle.kinds.proofs.Role as TRole
+use Rattle.kinds.proofs.Role.Laws as TRole′
 use Rattle.calls.proofs.place as place
-use Rattle.calls.proofs.judge as judge
+use Rattle.replies.proofs.judge as judge
 use Rattle.local.proofs.call.Key.{name as #f}
 use Rattle.local.proofs.call as f
 use Rattle.local.proofs.call.Statement as stated
@@ -84,9 +87,9 @@ use Rattle.tables.proofs.fits.Met as fits-thm
 use Rattle.calls.proofs.place.Symbol as place-def
 use Rattle.calls.proofs.place.Symbol.{name as #place}
 use Rattle.calls.proofs.place.Met as place-thm
-use Rattle.calls.proofs.judge.Symbol as judge-def
-use Rattle.calls.proofs.judge.Symbol.{name as #judge}
-use Rattle.calls.proofs.judge.Met as judge-thm
+use Rattle.replies.proofs.judge.Symbol as judge-def
+use Rattle.replies.proofs.judge.Symbol.{name as #judge}
+use Rattle.replies.proofs.judge.Met as judge-thm
 use Rattle.tables.proofs.Handed.{lends-fn, calls-fn}
 use Rattle.tables.proofs.fits as fits-fn
 
@@ -131,7 +134,7 @@ module _ {M : Type 1} (𝓤 : URA M) (H : Heap 𝓤) (A : Atoms 𝓤) (W : Given
   ok = limits.fits c ys
 
   abbrev i₀ : ℕ
-  i₀ = callPlace call
+  i₀ = callPlace c call
 
   abbrev e₀ : Entry
   e₀ = entryAt ys i₀
@@ -187,8 +190,8 @@ module _ {M : Type 1} (𝓤 : URA M) (H : Heap 𝓤) (A : Atoms 𝓤) (W : Given
           by ! (exits unfit ys refl (refused (fails _ bad)) g₁))
           (λ good. skips ! $
           exec ! C Λ En mir.t-6 (atRet En Post) $
-          calls-fn ! fm place.ended (place.clauses 𝓤 H A mem run) known-place ((tt, tt, tt, (call, tt), (EL.val TCall.the-type TCall′.the-laws call ∷ [], tt)), tt) (id⊢ 𝓤 _) (EL.makes TCall.the-type TCall′.the-plain 𝓤 H A call _ gcall, tt) (id⊢ 𝓤 _) i₀ (uint-vals w64) (uint-tells w64) (λ r e. refl)
-          (and-then ! (load ! (from ! (stop !)) (look ! 27 refl)) (no-more !)) (λ gi. land ! (from ! (stop !)) (init ! 24 refl (tt, record { fits = gi .1 })) $
+          calls-fn ! fm place.ended (place.clauses 𝓤 H A mem run) known-place ((tt, tt, tt, (c .role, (call, tt)), (EL.val TRole.the-type TRole′.the-laws (c .role) ∷ [], (EL.val TCall.the-type TCall′.the-laws call ∷ [], tt))), tt) (id⊢ 𝓤 _) (EL.makes TRole.the-type TRole′.the-plain 𝓤 H A (c .role) _ (LL.owed TConn.the-type TConn′.the-laws c _ gc .1 .1 .1 .1 .1 .0), (EL.makes TCall.the-type TCall′.the-plain 𝓤 H A call _ gcall, tt)) (id⊢ 𝓤 _) i₀ (uint-vals w64) (uint-tells w64) (λ r e. refl)
+          (and-then ! (load ! (from ! (fld ! refl (stop !))) (look-in ! 31 (sub ! 5 refl (whole !)))) (and-then ! (load ! (from ! (stop !)) (look ! 27 refl)) (no-more !))) (λ gi. land ! (from ! (stop !)) (init ! 24 refl (tt, record { fits = gi .1 })) $
           assigns ! (bin ! (load ! (from ! (stop !)) (look ! 24 refl)) (lit ! tt) (record { fits = (bytes good) })) (from ! (stop !)) (init ! 10 refl (tt, record { fits = (bytes good) })) $
           assigns ! (bin ! (load ! (from ! (fld ! refl (stop !))) (look-in ! 28 (sub ! 0 refl (whole !)))) (load ! (from ! (stop !)) (look ! 10 refl)) tt) (from ! (stop !)) (init ! 8 refl (tt, tt)) $
           rewrite ! 8 (λ (p : ℕ). ‵ (fat fullShare tyPtr l₁₂ 0 (vptr b p))) (sym (place-is 24 o i₀)) refl $
@@ -211,7 +214,7 @@ module _ {M : Type 1} (𝓤 : URA M) (H : Heap 𝓤) (A : Atoms 𝓤) (W : Given
           by ! (exits out zs₀ (length-set ys i₀ (j₀ .entry)) (judged (not-not _ good)) (go gj)))))))
         where
           inside : T (not (not ok)) → i₀ < length ys
-          inside good = omega (arith, place-within (streamIn call), fits-long c ys (not-not _ good))
+          inside good = omega (arith, place-within (streamIn (seatedCall (c .role) call)), fits-long c ys (not-not _ good))
 
           bytes : T (not (not ok)) → i₀ * 24 < 2 ^ 64
           bytes good = let h : length ys * 24 < 2 ^ 63 = gn .1 in omega (arith, inside good)
@@ -252,4 +255,4 @@ call-spec 𝓤 H 𝓜 𝓖 𝓡 =
     (f-meets 𝓤 H (𝓖 .A) (givenOf 𝓤 H 𝓜 𝓖) (𝓜 .mem) (𝓡 .run) (tablesOf 𝓤 H 𝓜 (tables 𝓤 H 𝓜 𝓡 code.env))
     (cited 𝓤 H (Fits 𝓤 H (𝓖 .A) (𝓜 .mem) (𝓡 .run)) 𝓜 𝓡 code.env #fits fits-def.routine code.calls-tables·fits (fits-thm.met 𝓤 H 𝓜 𝓖 𝓡))
     (cited 𝓤 H (Place 𝓤 H (𝓖 .A) (𝓜 .mem) (𝓡 .run)) 𝓜 𝓡 code.env #place place-def.routine code.calls-calls·place (place-thm.met 𝓤 H 𝓜 𝓖 𝓡))
-    (cited 𝓤 H (Judge 𝓤 H (𝓖 .A) (𝓜 .mem) (𝓡 .run)) 𝓜 𝓡 code.env #judge judge-def.routine code.calls-calls·judge (judge-thm.met 𝓤 H 𝓜 𝓖 𝓡)))
+    (cited 𝓤 H (Judge 𝓤 H (𝓖 .A) (𝓜 .mem) (𝓡 .run)) 𝓜 𝓡 code.env #judge judge-def.routine code.calls-replies·judge (judge-thm.met 𝓤 H 𝓜 𝓖 𝓡)))

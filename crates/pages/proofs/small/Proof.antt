@@ -3,6 +3,7 @@
 use mathlib.Core.Path.{_∙_, ap}
 use mathlib.Core.List.{List}
 use borrow.Author.Needs.{needs}
+use Rattle.kinds.specs.declared.Role.the-variants.{Server}
 use Rattle.owned.specs.Owned.{ownedOpenedOf}
 use Rattle.streams.specs.Small.{small}
 use Rattle.entries.specs.declared.Entry.{Entry}
@@ -12,7 +13,7 @@ use Rattle.pages.proofs.small.Tie as tie
 
 returns : tie.Need-returns
 unfolding smallOf
-returns c = c .«open» .ensures ∙ ap (λ (t : List Entry). ownedOpenedOf t small) (c .before .room .ensures)
+returns c = c .«open» .ensures ∙ ap (λ (t : List Entry). ownedOpenedOf Server t small) (c .before .room .ensures)
 
 pub small-spec : {M : Type 1} → statement M
 small-spec =

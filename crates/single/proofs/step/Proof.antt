@@ -49,6 +49,8 @@ use Rattle.streams.specs.declared.Conn.{Conn}
 use Rattle.streams.proofs.Conn as TConn
 use Rattle.streams.proofs.Conn.Laws as TConn′
 use Rattle.kinds.specs.declared.Kind.{Kind}
+use Rattle.kinds.proofs.Role as TRole
+use Rattle.kinds.proofs.Role.Laws as TRole′
 use Rattle.kinds.proofs.Kind as TKind
 use Rattle.kinds.proofs.Kind.Laws as TKind′
 use Rattle.steps.specs.declared.Stepped.{Stepped}
@@ -78,7 +80,7 @@ use Rattle.tables.proofs.Lent.{vals, ref}
 use Rattle.steps.proofs.frame.decide as decide-fn
 use Rattle.tables.proofs.Handed.{gives-fn, calls-fn}
 use Rattle.steps.proofs.frame.request as request-fn
-use mathlib.Core.Bool.{true, not}
+use mathlib.Core.Bool.{true, false, not}
 use lib.Dec.{T, leb, lit<, leb→le, nleb→lt}
 use lib.Seq.{set-out}
 use mathlib.Core.Option.{some, none}
@@ -121,7 +123,7 @@ module _ {M : Type 1} (𝓤 : URA M) (H : Heap 𝓤) (A : Atoms 𝓤) (W : Given
       qed W (Had zs) ∵ suffices ! _ (ends-at 𝓤 H A f.ended stayed (f.clauses 𝓤 H A mem run) W bound (LL.val TStepped.the-type TStepped′.the-laws r) r (tt, (zs, (tt, (tt, (tt, tt))))) (tt, (el, (tt, (tt, (tt, tt)))))) $ says ! said $ nothing ! $ move ! (4 ∷ 0 ∷ []) $ join ! $ move ! (3 ∷ 0 ∷ []) $ join ! $ frame ! $ fjoin ! $ pureI ! (at-slice TEntry.the-row (record { ptr = (b, o); name = γ; now = zs }) (at .1 .0)) (tt, (tt, tt)) (ap (λ (m : ℕ). sliceVal (b, o) m ∷ []) (sym el), subst (Room TEntry.the-row) (sym el) gn) $ fjoin ! $ nothing ! $ owned ! TKind.the-row (Is TKind.the-row) (EL.makes TKind.the-type TKind′.the-plain 𝓤 H A) kind _ gkind $ fjoin ! $ owned ! usize (Is usize) (uint-makes 𝓤 H A W w64) p _ (refl, gp) $ fjoin ! $ move ! (2 ∷ 0 ∷ []) $ fjoin ! $ move ! (1 ∷ 0 ∷ []) $ fjoin ! $ owned ! TConn.the-row (Is TConn.the-row) (LL.makes TConn.the-type TConn′.the-plain 𝓤 H A) c _ gc $ fjoin ! $ owned ! TStepped.the-row (Is TStepped.the-row) (LL.makes TStepped.the-type TStepped′.the-plain 𝓤 H A) r _ gr $ move ! (1 ∷ 0 ∷ []) $ done !
 
   abbrev a₀ : Request
-  a₀ = requestAt bs p kind
+  a₀ = requestAt (c .role) bs p kind
 
   abbrev i₀ : ℕ
   i₀ = a₀ .place
@@ -169,8 +171,8 @@ module _ {M : Type 1} (𝓤 : URA M) (H : Heap 𝓤) (A : Atoms 𝓤) (W : Given
           split ! $
           move ! (6 ∷ 0 ∷ []) $
           fjoin ! $
-          gives-fn ! fm request-fn.ended (request-fn.clauses 𝓤 H A mem run) known-request (((κ₂, tt), (q₂, tt), tt, (ref u8 bs b₂ o₂ γ₂, (p, (kind, tt))), (vals u8 bs b₂ o₂, (vint w64 p ∷ [], (EL.val TKind.the-type TKind′.the-laws kind ∷ [], tt)))), tt) (true ∷ []) κ₂ q₂ (ShrSlice (named 0) κ₂ u8 .own (ref u8 bs b₂ o₂ γ₂) (vals u8 bs b₂ o₂)) (refl, refl) (uint-makes 𝓤 H A W w64 p _ (refl, gp), (EL.makes TKind.the-type TKind′.the-plain 𝓤 H A kind _ gkind, tt)) (id⊢ 𝓤 _) (requestAt bs p kind) (LL.vals TRequest.the-type TRequest′.the-laws) (LL.tells TRequest.the-type TRequest′.the-laws) (λ r ws. id⊢ 𝓤 _)
-          (and-then ! (load ! (from ! (stop !)) (look ! 30 refl)) (and-then ! (load ! (from ! (stop !)) (look ! 28 refl)) (and-then ! (load ! (from ! (stop !)) (look ! 26 refl)) (no-more !)))) (λ ga. land ! (from ! (stop !)) (init ! 24 refl (LL.lawful TRequest.the-type TRequest′.the-laws 𝓤 H A W .typed a₀ _ ga .0)) $
+          gives-fn ! fm request-fn.ended (request-fn.clauses 𝓤 H A mem run) known-request (((κ₂, tt), (q₂, tt), tt, (c .role, (ref u8 bs b₂ o₂ γ₂, (p, (kind, tt)))), (EL.val TRole.the-type TRole′.the-laws (c .role) ∷ [], (vals u8 bs b₂ o₂, (vint w64 p ∷ [], (EL.val TKind.the-type TKind′.the-laws kind ∷ [], tt))))), tt) (false ∷ true ∷ []) κ₂ q₂ (ShrSlice (named 0) κ₂ u8 .own (ref u8 bs b₂ o₂ γ₂) (vals u8 bs b₂ o₂)) (refl, refl) (EL.makes TRole.the-type TRole′.the-plain 𝓤 H A (c .role) _ (LL.owed TConn.the-type TConn′.the-laws c _ gc .1 .1 .1 .1 .1 .0), (uint-makes 𝓤 H A W w64 p _ (refl, gp), (EL.makes TKind.the-type TKind′.the-plain 𝓤 H A kind _ gkind, tt))) (id⊢ 𝓤 _) (requestAt (c .role) bs p kind) (LL.vals TRequest.the-type TRequest′.the-laws) (LL.tells TRequest.the-type TRequest′.the-laws) (λ r ws. id⊢ 𝓤 _)
+          (and-then ! (load ! (from ! (fld ! refl (stop !))) (look-in ! 34 (sub ! 5 refl (whole !)))) (and-then ! (load ! (from ! (stop !)) (look ! 30 refl)) (and-then ! (load ! (from ! (stop !)) (look ! 28 refl)) (and-then ! (load ! (from ! (stop !)) (look ! 26 refl)) (no-more !))))) (λ ga. land ! (from ! (stop !)) (init ! 24 refl (LL.lawful TRequest.the-type TRequest′.the-laws 𝓤 H A W .typed a₀ _ ga .0)) $
           assigns ! (of-opd ! (load ! (from ! (fld ! refl (stop !))) (look-in ! 24 (sub ! 0 refl (whole !))))) (from ! (stop !)) (init ! 22 refl (tt, record { fits = gi ga })) $
           assigns ! (of-opd ! (load ! (from ! (fld ! refl (stop !))) (look-in ! 32 (sub ! 1 refl (whole !))))) (from ! (stop !)) (init ! 14 refl (tt, record { fits = gn .0 })) $
           assigns ! (bin ! (load ! (from ! (stop !)) (look ! 14 refl)) (load ! (from ! (stop !)) (look ! 22 refl)) tt) (from ! (stop !)) (init ! 12 refl (tt, tt)) $
@@ -215,7 +217,7 @@ module _ {M : Type 1} (𝓤 : URA M) (H : Heap 𝓤) (A : Atoms 𝓤) (W : Given
           bytes : T (not (leb (length ys) i₀)) → i₀ * 24 < 2 ^ 64
           bytes within = let h : length ys * 24 < 2 ^ 63 = gn .1 in omega (arith, inside within)
 
-          gi : Is TRequest.the-row (requestAt bs p kind) (LL.val TRequest.the-type TRequest′.the-laws (requestAt bs p kind) ∷ []) → i₀ < 2 ^ 64
+          gi : Is TRequest.the-row (requestAt (c .role) bs p kind) (LL.val TRequest.the-type TRequest′.the-laws (requestAt (c .role) bs p kind) ∷ []) → i₀ < 2 ^ 64
           gi ga = LL.owed TRequest.the-type TRequest′.the-laws a₀ _ ga .0 .1
 
           g-fresh : Is TEntry.the-row (fresh 0) (LL.val TEntry.the-type TEntry′.the-laws (fresh 0) ∷ [])

@@ -47,6 +47,9 @@ use Rattle.tables.proofs.Leave.{stand, leaves}
 use Rattle.tables.specs.Opened.{filledTo, openedTable}
 use Rattle.tables.proofs.Lent.{vals, ref}
 use Rattle.tables.proofs.Within.{entries-within}
+use Rattle.kinds.specs.declared.Role.{Role}
+use Rattle.kinds.proofs.Role as TRole
+use Rattle.kinds.proofs.Role.Laws as TRole′
 use Rattle.opening.specs.declared.Opened.{Opened}
 use Rattle.opening.proofs.Opened as TOpened
 use Rattle.opening.proofs.Opened.Laws as TOpened′
@@ -76,7 +79,7 @@ use Rattle.tables.proofs.fill as fill-fn
 use mathlib.Core.Bool.{true}
 
 abbrev stayed : Stays (f.ended .signature .params) (f.ended .kept)
-stayed = (stay-slice (0 ∷ []) tt (plain (λ _. TEntry.the-row)), (stay-none (λ _. TLimits.the-row) yes, tt))
+stayed = (stay-slice (0 ∷ []) tt (plain (λ _. TEntry.the-row)), (stay-none (λ _. TRole.the-row) yes, (stay-none (λ _. TLimits.the-row) yes, tt)))
 
 module _ {M : Type 1} (𝓤 : URA M) (H : Heap 𝓤) (A : Atoms 𝓤) (mem : Memory → SProp 𝓤) (run : Routine → Fun 𝓤) where
   abbrev Fill : Contract 𝓤
@@ -88,13 +91,13 @@ module _ {M : Type 1} (𝓤 : URA M) (H : Heap 𝓤) (A : Atoms 𝓤) (mem : Mem
   abbrev ForTable : Contract 𝓤
   ForTable = tripleOf 𝓤 H A for-table-fn.signature (for-table-fn.spec 𝓤 H A mem run)
 
-module _ {M : Type 1} (𝓤 : URA M) (H : Heap 𝓤) (A : Atoms 𝓤) (W : Given 𝓤 H A) (mem : Memory → SProp 𝓤) (run : Routine → Fun 𝓤) (κ : Lft) (q : Share) (b o : ℕ) (γ : GName) (ys : List Entry) (limits : Limits)
-    (gn : Room TEntry.the-row (length ys)) (glimits : Is TLimits.the-row limits (LL.val TLimits.the-type TLimits′.the-laws limits ∷ [])) where
-  abbrev x : RefT (List Entry) × (Limits × Unit {0})
-  x = (record { ptr = (b, o); name = γ; now = ys }, (limits, tt))
+module _ {M : Type 1} (𝓤 : URA M) (H : Heap 𝓤) (A : Atoms 𝓤) (W : Given 𝓤 H A) (mem : Memory → SProp 𝓤) (run : Routine → Fun 𝓤) (κ : Lft) (q : Share) (b o : ℕ) (γ : GName) (ys : List Entry) (role : Role) (limits : Limits)
+    (gn : Room TEntry.the-row (length ys)) (grole : Is TRole.the-row role (EL.val TRole.the-type TRole′.the-laws role ∷ [])) (glimits : Is TLimits.the-row limits (LL.val TLimits.the-type TLimits′.the-laws limits ∷ [])) where
+  abbrev x : RefT (List Entry) × (Role × (Limits × Unit {0}))
+  x = (record { ptr = (b, o); name = γ; now = ys }, (role, (limits, tt)))
 
   abbrev at : Vals f.signature (κ, tt)
-  at = (sliceVal (b, o) (length ys) ∷ [], (LL.val TLimits.the-type TLimits′.the-laws limits ∷ [], tt))
+  at = (sliceVal (b, o) (length ys) ∷ [], (EL.val TRole.the-type TRole′.the-laws role ∷ [], (LL.val TLimits.the-type TLimits′.the-laws limits ∷ [], tt)))
 
   abbrev bound : walkOf 𝓤 H A f.ended stayed (f.clauses 𝓤 H A mem run) .Ghost
   bound = (((κ, tt), (q, tt), tt, x, at), tt)
@@ -103,17 +106,17 @@ module _ {M : Type 1} (𝓤 : URA M) (H : Heap 𝓤) (A : Atoms 𝓤) (W : Given
   Post = walkOf 𝓤 H A f.ended stayed (f.clauses 𝓤 H A mem run) .post bound
 
   abbrev Says : Opened → List Entry → Type 0
-  Says r zs = (r ≡ openingWhen (length ys) limits) × (zs ≡ openedTable ys limits)
+  Says r zs = (r ≡ openingWhen role (length ys) limits) × (zs ≡ openedTable role ys limits)
 
   abbrev Had : List Entry → List (Item 𝓤)
   Had zs = ‵ (fobs γ (codedHoleys TEntry.the-row .code (heres TEntry.the-row zs))) ∷ ‵ (fbor κ (Held TEntry.the-row (length zs) b o γ)) ∷ ‵ (flft κ q) ∷ []
 
   exits : (r : Opened) (zs : List Entry) → length zs ≡ length ys → Says r zs → Is TOpened.the-row r (LL.val TOpened.the-type TOpened′.the-laws r ∷ []) → ent 𝓤 (⋆ 𝓤 H A (Had zs)) (Post (LL.val TOpened.the-type TOpened′.the-laws r))
   exits r zs el said gr =
-      qed W (Had zs) ∵ suffices ! _ (ends-at 𝓤 H A f.ended stayed (f.clauses 𝓤 H A mem run) W bound (LL.val TOpened.the-type TOpened′.the-laws r) r (zs, (tt, tt)) (el, (tt, tt))) $ says ! said $ nothing ! $ move ! (3 ∷ 0 ∷ []) $ join ! $ frame ! $ fjoin ! $ pureI ! (at-slice TEntry.the-row (record { ptr = (b, o); name = γ; now = zs }) (at .0)) (tt, (tt, tt)) (ap (λ (m : ℕ). sliceVal (b, o) m ∷ []) (sym el), subst (Room TEntry.the-row) (sym el) gn) $ fjoin ! $ nothing ! $ owned ! TLimits.the-row (Is TLimits.the-row) (LL.makes TLimits.the-type TLimits′.the-plain 𝓤 H A) limits _ glimits $ fjoin ! $ move ! (1 ∷ 0 ∷ []) $ fjoin ! $ owned ! TOpened.the-row (Is TOpened.the-row) (LL.makes TOpened.the-type TOpened′.the-plain 𝓤 H A) r _ gr $ move ! (1 ∷ 0 ∷ []) $ done !
+      qed W (Had zs) ∵ suffices ! _ (ends-at 𝓤 H A f.ended stayed (f.clauses 𝓤 H A mem run) W bound (LL.val TOpened.the-type TOpened′.the-laws r) r (zs, (tt, (tt, tt))) (el, (tt, (tt, tt)))) $ says ! said $ nothing ! $ move ! (3 ∷ 0 ∷ []) $ join ! $ frame ! $ fjoin ! $ pureI ! (at-slice TEntry.the-row (record { ptr = (b, o); name = γ; now = zs }) (at .0)) (tt, (tt, tt)) (ap (λ (m : ℕ). sliceVal (b, o) m ∷ []) (sym el), subst (Room TEntry.the-row) (sym el) gn) $ fjoin ! $ nothing ! $ owned ! TLimits.the-row (Is TLimits.the-row) (LL.makes TLimits.the-type TLimits′.the-plain 𝓤 H A) limits _ glimits $ fjoin ! $ owned ! TRole.the-row (Is TRole.the-row) (EL.makes TRole.the-type TRole′.the-plain 𝓤 H A) role _ grole $ fjoin ! $ move ! (1 ∷ 0 ∷ []) $ fjoin ! $ owned ! TOpened.the-row (Is TOpened.the-row) (LL.makes TOpened.the-type TOpened′.the-plain 𝓤 H A) r _ gr $ move ! (1 ∷ 0 ∷ []) $ done !
 
   abbrev out : Opened
-  out = openingWhen (length ys) limits
+  out = openingWhen role (length ys) limits
 
   abbrev n₀ : ℕ
   n₀ = entriesOf (out .answer)
@@ -135,42 +138,42 @@ module _ {M : Type 1} (𝓤 : URA M) (H : Heap 𝓤) (A : Atoms 𝓤) (W : Given
     abbrev fm : FmC 𝓤 H (W .laws) (𝓣 .C)
     fm = fmOf 𝓤 H (W .laws) 𝓣
 
-    module _ (l₀ l₁ l₂ l₃ l₄ l₅ l₆ l₇ l₈ : ℕ) where
+    module _ (l₀ l₁ l₂ l₃ l₄ l₅ l₆ l₇ l₈ l₉ : ℕ) where
       abbrev En : Env 𝓤 H
-      En = (TOpened′.mir, l₀) ∷ (sliceTy (tyRef (named 0) mut (pointee (TEntry.the-row .written))), l₁) ∷ (TLimits′.mir, l₂) ∷ (TOpened′.mir, l₃) ∷ (tyInt w64, l₄) ∷ (tyInt w64, l₅) ∷ (tyUnit, l₆) ∷ (tyRef erased mut (pointee (TEntry.the-row .written)), l₇) ∷ (sliceTy (tyRef erased mut (pointee (TEntry.the-row .written))), l₈) ∷ []
+      En = (TOpened′.mir, l₀) ∷ (sliceTy (tyRef (named 0) mut (pointee (TEntry.the-row .written))), l₁) ∷ (TRole′.mir, l₂) ∷ (TLimits′.mir, l₃) ∷ (TOpened′.mir, l₄) ∷ (tyInt w64, l₅) ∷ (tyInt w64, l₆) ∷ (tyUnit, l₇) ∷ (tyRef erased mut (pointee (TEntry.the-row .written)), l₈) ∷ (sliceTy (tyRef erased mut (pointee (TEntry.the-row .written))), l₉) ∷ []
 
       body : Sq W (‵ (row TEntry.the-row fullShare ys b o) ∷ ‵ (fobor κ q (Held TEntry.the-row (length ys) b o γ)) ∷ ‵ (fobs γ (codedHoleys TEntry.the-row .code (heres TEntry.the-row ys))) ∷ ‵ (fauth γ (codedHoleys TEntry.the-row .code (heres TEntry.the-row ys)))
-          ∷ stand 𝓤 H A En (none ∷ some (sliceVal (b, o) (length ys)) ∷ some (LL.val TLimits.the-type TLimits′.the-laws limits) ∷ [])) (runs C Λ En mir.t-1 (atRet En Post))
+          ∷ stand 𝓤 H A En (none ∷ some (sliceVal (b, o) (length ys)) ∷ some (EL.val TRole.the-type TRole′.the-laws role) ∷ some (LL.val TLimits.the-type TLimits′.the-laws limits) ∷ [])) (runs C Λ En mir.t-1 (atRet En Post))
       body =
-          assigns ! (of-opd ! (load ! (from ! (fld ! refl (stop !))) (look-in ! 18 (sub ! 1 refl (whole !))))) (from ! (stop !)) (init ! 10 refl (tt, record { fits = gn .0 })) $
-          calls-fn ! fm for-table-fn.ended (for-table-fn.clauses 𝓤 H A mem run) known-for-table ((tt, tt, tt, ((length ys), (limits, tt)), (vint w64 (length ys) ∷ [], (LL.val TLimits.the-type TLimits′.the-laws limits ∷ [], tt))), tt) (id⊢ 𝓤 _) (uint-makes 𝓤 H A W w64 (length ys) _ (refl, (gn .0)), (LL.makes TLimits.the-type TLimits′.the-plain 𝓤 H A limits _ glimits, tt)) (id⊢ 𝓤 _) (openingWhen (length ys) limits) (LL.vals TOpened.the-type TOpened′.the-laws) (LL.tells TOpened.the-type TOpened′.the-laws) (λ r e. refl)
-          (and-then ! (load ! (from ! (stop !)) (look ! 11 refl)) (and-then ! (load ! (from ! (stop !)) (look ! 17 refl)) (no-more !))) (λ go. land ! (from ! (stop !)) (init ! 14 refl (LL.lawful TOpened.the-type TOpened′.the-laws 𝓤 H A W .typed out _ go .0)) $
+          assigns ! (of-opd ! (load ! (from ! (fld ! refl (stop !))) (look-in ! 20 (sub ! 1 refl (whole !))))) (from ! (stop !)) (init ! 10 refl (tt, record { fits = gn .0 })) $
+          calls-fn ! fm for-table-fn.ended (for-table-fn.clauses 𝓤 H A mem run) known-for-table ((tt, tt, tt, (role, ((length ys), (limits, tt))), (EL.val TRole.the-type TRole′.the-laws role ∷ [], (vint w64 (length ys) ∷ [], (LL.val TLimits.the-type TLimits′.the-laws limits ∷ [], tt)))), tt) (id⊢ 𝓤 _) (EL.makes TRole.the-type TRole′.the-plain 𝓤 H A role _ grole, (uint-makes 𝓤 H A W w64 (length ys) _ (refl, (gn .0)), (LL.makes TLimits.the-type TLimits′.the-plain 𝓤 H A limits _ glimits, tt))) (id⊢ 𝓤 _) (openingWhen role (length ys) limits) (LL.vals TOpened.the-type TOpened′.the-laws) (LL.tells TOpened.the-type TOpened′.the-laws) (λ r e. refl)
+          (and-then ! (load ! (from ! (stop !)) (look ! 19 refl)) (and-then ! (load ! (from ! (stop !)) (look ! 11 refl)) (and-then ! (load ! (from ! (stop !)) (look ! 17 refl)) (no-more !)))) (λ go. land ! (from ! (stop !)) (init ! 14 refl (LL.lawful TOpened.the-type TOpened′.the-laws 𝓤 H A W .typed out _ go .0)) $
           calls-fn ! fm count-fn.ended (count-fn.clauses 𝓤 H A mem run) known-count ((tt, tt, tt, ((out .answer), tt), (EL.val TAnswer.the-type TAnswer′.the-laws (out .answer) ∷ [], tt)), tt) (id⊢ 𝓤 _) (EL.makes TAnswer.the-type TAnswer′.the-plain 𝓤 H A (out .answer) _ (LL.owed TOpened.the-type TOpened′.the-laws out _ go .0), tt) (id⊢ 𝓤 _) (entriesOf (out .answer)) (uint-vals w64) (uint-tells w64) (λ r e. refl)
           (and-then ! (load ! (from ! (fld ! refl (stop !))) (look-in ! 15 (sub ! 0 refl (whole !)))) (no-more !)) (λ gk. land ! (from ! (stop !)) (init ! 12 refl (tt, record { fits = gk .1 })) $
-          assigns ! (addr ! (from ! (fld ! refl (hop ! (look-in ! 18 (sub ! 0 refl (whole !))) (stop !))))) (from ! (stop !)) (init ! 6 refl (tt, tt)) $
-          assigns ! (agg ! (and-then ! (load ! (from ! (stop !)) (look ! 6 refl)) (and-then ! (load ! (from ! (fld ! refl (stop !))) (look-in ! 18 (sub ! 1 refl (whole !)))) (no-more !)))) (from ! (stop !)) (init ! 4 refl (tt, (tt, (record { fits = gn .0 }, tt)))) $
-          lends-mut-fn ! fm fill-fn.ended (fill-fn.clauses 𝓤 H A mem run) known-fill TEntry.the-row ys b o gn (named 0) (λ ν γ. (((ν ∷ [], tt), (fullShare, tt), tt, (ref TEntry.the-row ys b o γ, (n₀, (limits, tt))), (vals TEntry.the-row ys b o, (vint w64 n₀ ∷ [], (LL.val TLimits.the-type TLimits′.the-laws limits ∷ [], tt)))), tt)) (true ∷ []) (λ ν γ. (refl, refl)) (λ ν γ. (uint-makes 𝓤 H A W w64 n₀ _ (refl, gk .1), (LL.makes TLimits.the-type TLimits′.the-plain 𝓤 H A limits _ glimits, tt))) (λ ν γ. (factI 𝓤 _ (emp 𝓤) (entries-within (length ys) limits))) (λ ν γ. tt) (λ ν γ. nothing-vals) (λ ν γ. nothing-tells) (vunit) (Is Nothing tt (vunit ∷ [])) (λ ν γ v g. g) (filledTo n₀ ys limits) 0 (λ ν γ ws. ws .0) (λ ν γ ws. refl) (λ ν γ r ws. fact-mono 𝓤 (ws .0 ≡ filledTo n₀ ys limits) ((r ≡ tt) × (ws .0 ≡ filledTo n₀ ys limits)) (λ h. (refl, h)))
+          assigns ! (addr ! (from ! (fld ! refl (hop ! (look-in ! 20 (sub ! 0 refl (whole !))) (stop !))))) (from ! (stop !)) (init ! 6 refl (tt, tt)) $
+          assigns ! (agg ! (and-then ! (load ! (from ! (stop !)) (look ! 6 refl)) (and-then ! (load ! (from ! (fld ! refl (stop !))) (look-in ! 20 (sub ! 1 refl (whole !)))) (no-more !)))) (from ! (stop !)) (init ! 4 refl (tt, (tt, (record { fits = gn .0 }, tt)))) $
+          lends-mut-fn ! fm fill-fn.ended (fill-fn.clauses 𝓤 H A mem run) known-fill TEntry.the-row ys b o gn (named 0) (λ ν γ. (((ν ∷ [], tt), (fullShare, tt), tt, (ref TEntry.the-row ys b o γ, (n₀, (limits, tt))), (vals TEntry.the-row ys b o, (vint w64 n₀ ∷ [], (LL.val TLimits.the-type TLimits′.the-laws limits ∷ [], tt)))), tt)) (true ∷ []) (λ ν γ. (refl, refl)) (λ ν γ. (uint-makes 𝓤 H A W w64 n₀ _ (refl, gk .1), (LL.makes TLimits.the-type TLimits′.the-plain 𝓤 H A limits _ glimits, tt))) (λ ν γ. (factI 𝓤 _ (emp 𝓤) (entries-within role (length ys) limits))) (λ ν γ. tt) (λ ν γ. nothing-vals) (λ ν γ. nothing-tells) (vunit) (Is Nothing tt (vunit ∷ [])) (λ ν γ v g. g) (filledTo n₀ ys limits) 0 (λ ν γ ws. ws .0) (λ ν γ ws. refl) (λ ν γ r ws. fact-mono 𝓤 (ws .0 ≡ filledTo n₀ ys limits) ((r ≡ tt) × (ws .0 ≡ filledTo n₀ ys limits)) (λ h. (refl, h)))
           (λ ν δ. (and-then ! (load ! (from ! (stop !)) (look ! 5 refl)) (and-then ! (load ! (from ! (stop !)) (look ! 13 refl)) (and-then ! (load ! (from ! (stop !)) (look ! 17 refl)) (no-more !))))) (λ el gu. land ! (from ! (stop !)) (init ! 8 refl (tt, tt)) $
-          assigns ! (of-opd ! (load ! (from ! (stop !)) (look ! 14 refl))) (from ! (stop !)) (init ! 20 refl (LL.lawful TOpened.the-type TOpened′.the-laws 𝓤 H A W .typed out _ go .0)) $
+          assigns ! (of-opd ! (load ! (from ! (stop !)) (look ! 14 refl))) (from ! (stop !)) (init ! 22 refl (LL.lawful TOpened.the-type TOpened′.the-laws 𝓤 H A W .typed out _ go .0)) $
           closes-slice ! tt TEntry.the-row ys zs₀ el b o $
-          returns ! (look ! 19 refl) $
+          returns ! (look ! 21 refl) $
           leaves ! refl $
           by ! (exits out zs₀ el told go))))
 
-    walk : ent 𝓤 (onEntry 𝓤 H A f.signature (κ, tt) (q, tt) x at) (WpFn 𝓤 H (𝓣 .C) (𝓣 .Λ) code.function (sliceVal (b, o) (length ys) ∷ LL.val TLimits.the-type TLimits′.the-laws limits ∷ []) Post)
+    walk : ent 𝓤 (onEntry 𝓤 H A f.signature (κ, tt) (q, tt) x at) (WpFn 𝓤 H (𝓣 .C) (𝓣 .Λ) code.function (sliceVal (b, o) (length ys) ∷ EL.val TRole.the-type TRole′.the-laws role ∷ LL.val TLimits.the-type TLimits′.the-laws limits ∷ []) Post)
     walk =
-        qed W ((‵ (flft κ q) ⊛ ‵ ftrue) ∷ ‵ (owns (MutSlice (named 0) κ TEntry.the-row ∷ TLimits.the-row ∷ []) x at) ∷ []) ∵ enter ! C Λ code.function (sliceVal (b, o) (length ys) ∷ LL.val TLimits.the-type TLimits′.the-laws limits ∷ []) _ $
-        alloc1 ! (λ l₀. alloc1 ! (λ l₁. alloc1 ! (λ l₂. alloc1 ! (λ l₃. alloc1 ! (λ l₄. alloc1 ! (λ l₅. alloc1 ! (λ l₆. alloc1 ! (λ l₇. alloc1 ! (λ l₈. alloc0 ! $ params1 ! $
-        pass1 ! (init ! 14 refl (tt, (tt, (record { fits = gn .0 }, tt)))) $ pass1 ! (init ! 12 refl (LL.lawful TLimits.the-type TLimits′.the-laws 𝓤 H A W .typed limits _ glimits .0)) $ pass0 ! $ move ! (19 ∷ []) $ fsplit ! $ fsplit ! $ drop ! $ fsplit ! $ move ! (21 ∷ []) $ split ! $ move ! (2 ∷ 3 ∷ 0 ∷ []) $ opens-slice ! tt TEntry.the-row ys b o $ keep ! (0 ∷ 1 ∷ 2 ∷ 3 ∷ 6 ∷ 7 ∷ 8 ∷ 9 ∷ 10 ∷ 11 ∷ 12 ∷ 13 ∷ 14 ∷ 15 ∷ 16 ∷ 17 ∷ 18 ∷ 19 ∷ 20 ∷ 21 ∷ 22 ∷ 23 ∷ []) $ body l₀ l₁ l₂ l₃ l₄ l₅ l₆ l₇ l₈)))))))))
+        qed W ((‵ (flft κ q) ⊛ ‵ ftrue) ∷ ‵ (owns (MutSlice (named 0) κ TEntry.the-row ∷ TRole.the-row ∷ TLimits.the-row ∷ []) x at) ∷ []) ∵ enter ! C Λ code.function (sliceVal (b, o) (length ys) ∷ EL.val TRole.the-type TRole′.the-laws role ∷ LL.val TLimits.the-type TLimits′.the-laws limits ∷ []) _ $
+        alloc1 ! (λ l₀. alloc1 ! (λ l₁. alloc1 ! (λ l₂. alloc1 ! (λ l₃. alloc1 ! (λ l₄. alloc1 ! (λ l₅. alloc1 ! (λ l₆. alloc1 ! (λ l₇. alloc1 ! (λ l₈. alloc1 ! (λ l₉. alloc0 ! $ params1 ! $
+        pass1 ! (init ! 16 refl (tt, (tt, (record { fits = gn .0 }, tt)))) $ pass1 ! (init ! 14 refl (EL.lawful TRole.the-type TRole′.the-laws 𝓤 H A W tt .typed role _ grole .0)) $ pass1 ! (init ! 12 refl (LL.lawful TLimits.the-type TLimits′.the-laws 𝓤 H A W .typed limits _ glimits .0)) $ pass0 ! $ move ! (21 ∷ []) $ fsplit ! $ fsplit ! $ drop ! $ fsplit ! $ move ! (23 ∷ []) $ split ! $ move ! (2 ∷ 3 ∷ 0 ∷ []) $ opens-slice ! tt TEntry.the-row ys b o $ keep ! (0 ∷ 1 ∷ 2 ∷ 3 ∷ 6 ∷ 7 ∷ 8 ∷ 9 ∷ 10 ∷ 11 ∷ 12 ∷ 13 ∷ 14 ∷ 15 ∷ 16 ∷ 17 ∷ 18 ∷ 19 ∷ 20 ∷ 21 ∷ 22 ∷ 23 ∷ 24 ∷ 25 ∷ []) $ body l₀ l₁ l₂ l₃ l₄ l₅ l₆ l₇ l₈ l₉))))))))))
 
 module _ {M : Type 1} (𝓤 : URA M) (H : Heap 𝓤) (A : Atoms 𝓤) (W : Given 𝓤 H A) (mem : Memory → SProp 𝓤) (run : Routine → Fun 𝓤) (𝓣 : Tables 𝓤 H) where
   f-walks : Triple 𝓤 (𝓣 .C #for-table) (ForTable 𝓤 H A mem run) → Triple 𝓤 (𝓣 .C #count) (Counts 𝓤 H A mem run) → Triple 𝓤 (𝓣 .C #fill) (Fill 𝓤 H A mem run) → Walks 𝓤 H A f.ended stayed (WpFn 𝓤 H (𝓣 .C) (𝓣 .Λ) code.function) (f.clauses 𝓤 H A mem run)
-  f-walks known-for-table known-count known-fill = walked 𝓤 H A f.ended stayed (f.clauses 𝓤 H A mem run) (WpFn 𝓤 H (𝓣 .C) (𝓣 .Λ) code.function) (λ κs. (slice-vals, (LL.vals TLimits.the-type TLimits′.the-laws, tt))) (λ κs. (mut-slice-tells (named 0) (κs .0) TEntry.the-row, (LL.tells TLimits.the-type TLimits′.the-laws, tt)))
-      (λ κs qs bounds a g are. via 𝓤 _ (fst∗ 𝓤 _ (emp 𝓤)) (walk 𝓤 H A W mem run (κs .0) (qs .0) (a .0 .ptr .0) (a .0 .ptr .1) (a .0 .name) (a .0 .now) (a .1 .0) (are .0 .0 .1) (are .1 .0) 𝓣 known-for-table known-count known-fill))
+  f-walks known-for-table known-count known-fill = walked 𝓤 H A f.ended stayed (f.clauses 𝓤 H A mem run) (WpFn 𝓤 H (𝓣 .C) (𝓣 .Λ) code.function) (λ κs. (slice-vals, (EL.vals TRole.the-type TRole′.the-laws, (LL.vals TLimits.the-type TLimits′.the-laws, tt)))) (λ κs. (mut-slice-tells (named 0) (κs .0) TEntry.the-row, (EL.tells TRole.the-type TRole′.the-laws, (LL.tells TLimits.the-type TLimits′.the-laws, tt))))
+      (λ κs qs bounds a g are. via 𝓤 _ (fst∗ 𝓤 _ (emp 𝓤)) (walk 𝓤 H A W mem run (κs .0) (qs .0) (a .0 .ptr .0) (a .0 .ptr .1) (a .0 .name) (a .0 .now) (a .1 .0) (a .1 .1 .0) (are .0 .0 .1) (are .1 .0) (are .1 .1 .0) 𝓣 known-for-table known-count known-fill))
 
   f-meets : Triple 𝓤 (𝓣 .C #for-table) (ForTable 𝓤 H A mem run) → Triple 𝓤 (𝓣 .C #count) (Counts 𝓤 H A mem run) → Triple 𝓤 (𝓣 .C #fill) (Fill 𝓤 H A mem run) → Meets 𝓤 H A f.signature (WpFn 𝓤 H (𝓣 .C) (𝓣 .Λ) code.function) (f.spec 𝓤 H A mem run)
   f-meets known-for-table known-count known-fill =
-      walk-meets 𝓤 H A f.ended stayed W (goes-slice 𝓤 H A W 1 0 tt (plain (λ _. TEntry.the-row)), (goes-none 𝓤 H A W 1 (λ _. TLimits.the-row) yes (λ κs x f. refl), tt)) (f.clauses 𝓤 H A mem run)
+      walk-meets 𝓤 H A f.ended stayed W (goes-slice 𝓤 H A W 1 0 tt (plain (λ _. TEntry.the-row)), (goes-none 𝓤 H A W 1 (λ _. TRole.the-row) yes (λ κs x f. refl), (goes-none 𝓤 H A W 1 (λ _. TLimits.the-row) yes (λ κs x f. refl), tt))) (f.clauses 𝓤 H A mem run)
       (WpFn 𝓤 H (𝓣 .C) (𝓣 .Λ) code.function) (WpFn-mono 𝓤 H (W .laws) 𝓣 code.function) (f-walks known-for-table known-count known-fill)
 
 pub open-spec : {M : Type 1} → stated.statement M

@@ -49,8 +49,7 @@ use prog.Wp.{Out, Wp, afterSeq, afterBlock, afterTurn, atReturn}
 use types.Run.{jumps, blocks, Below, again, loops}
 use lib.Dec.{leb, nleb→lt}
 use Rattle.answers.specs.declared.Answer.the-variants.{Accepted}
-use Rattle.streams.specs.Conn.{isOpen}
-use Rattle.steps.specs.Past.{pastPadding}
+use Rattle.steps.specs.Past.{passable, pastPadding}
 use Rattle.tables.proofs.Leave.{leaves}
 use Rattle.walks.specs.Walk.{stopped, walkFrom, walkAll, stoppedOf, walkTable}
 use Rattle.single.specs.Single.{steppedAt, stepTable}
@@ -63,6 +62,8 @@ use Rattle.streams.specs.declared.Conn.{Conn}
 use Rattle.streams.proofs.Conn as TConn
 use Rattle.streams.proofs.Conn.Laws as TConn′
 use Rattle.kinds.specs.declared.Kind.{Kind}
+use Rattle.kinds.proofs.Role as TRole
+use Rattle.kinds.proofs.Role.Laws as TRole′
 use Rattle.kinds.proofs.Kind as TKind
 use Rattle.kinds.proofs.Kind.Laws as TKind′
 use Rattle.steps.specs.declared.Stopped.{Stopped}
@@ -162,11 +163,11 @@ module _ {M : Type 1} (𝓤 : URA M) (H : Heap 𝓤) (A : Atoms 𝓤) (W : Given
   start = record { k = length bs - p; i = p; d = c; zs = ys; sized = gp; is = gc; len = refl; ahead = omega arith; left = omega arith; far = refl }
 
   -- past the PADDING
-  further : (s : St) → Further bs kind (s .d) (s .zs) (s .k) (s .i) (pastPadding (isOpen (s .d .mark)) bs (s .i))
+  further : (s : St) → Further bs kind (s .d) (s .zs) (s .k) (s .i) (pastPadding (passable (s .d .mark) (s .d .role) kind) bs (s .i))
   further s = padding.past bs kind (s .d) (s .zs) (s .k) (s .i) (s .left)
 
   abbrev i′ : St → ℕ
-  i′ s = pastPadding (isOpen (s .d .mark)) bs (s .i)
+  i′ s = pastPadding (passable (s .d .mark) (s .d .role) kind) bs (s .i)
 
   abbrev j : St → Stepped
   j s = steppedAt (s .d) (s .zs) bs (i′ s) kind
@@ -288,8 +289,8 @@ module _ {M : Type 1} (𝓤 : URA M) (H : Heap 𝓤) (A : Atoms 𝓤) (W : Given
           split ! $
           move ! (6 ∷ 0 ∷ []) $
           fjoin ! $
-          gives-fn ! fm past-fn.ended (past-fn.clauses 𝓤 H A mem run) known-past (((κ₂, tt), (q₂, tt), tt, (s .d .mark, (ref u8 bs b₂ o₂ γ₂, (s .i, tt))), (EL.val TMark.the-type TMark′.the-laws (s .d .mark) ∷ [], (vals u8 bs b₂ o₂, (vint w64 (s .i) ∷ [], tt)))), tt) (false ∷ true ∷ []) κ₂ q₂ (ShrSlice (named 0) κ₂ u8 .own (ref u8 bs b₂ o₂ γ₂) (vals u8 bs b₂ o₂)) (refl, refl) (EL.makes TMark.the-type TMark′.the-plain 𝓤 H A (s .d .mark) _ (LL.owed TConn.the-type TConn′.the-laws (s .d) _ (s .is) .1 .1 .1 .1 .0), (uint-makes 𝓤 H A W w64 (s .i) _ (refl, s .sized), tt)) (id⊢ 𝓤 _) (i′ s) (uint-vals w64) (uint-tells w64) (λ r ws. id⊢ 𝓤 _)
-          (and-then ! (load ! (from ! (fld ! refl (stop !))) (look-in ! 24 (sub ! 4 refl (whole !)))) (and-then ! (load ! (from ! (stop !)) (look ! 30 refl)) (and-then ! (load ! (from ! (stop !)) (look ! 22 refl)) (no-more !)))) (λ gi. land ! (from ! (stop !)) (store ! 22 refl (tt, record { fits = gi .1 })) $
+          gives-fn ! fm past-fn.ended (past-fn.clauses 𝓤 H A mem run) known-past (((κ₂, tt), (q₂, tt), tt, (s .d .mark, (s .d .role, (kind, (ref u8 bs b₂ o₂ γ₂, (s .i, tt))))), (EL.val TMark.the-type TMark′.the-laws (s .d .mark) ∷ [], (EL.val TRole.the-type TRole′.the-laws (s .d .role) ∷ [], (EL.val TKind.the-type TKind′.the-laws kind ∷ [], (vals u8 bs b₂ o₂, (vint w64 (s .i) ∷ [], tt)))))), tt) (false ∷ false ∷ false ∷ true ∷ []) κ₂ q₂ (ShrSlice (named 0) κ₂ u8 .own (ref u8 bs b₂ o₂ γ₂) (vals u8 bs b₂ o₂)) (refl, refl) (EL.makes TMark.the-type TMark′.the-plain 𝓤 H A (s .d .mark) _ (LL.owed TConn.the-type TConn′.the-laws (s .d) _ (s .is) .1 .1 .1 .1 .0), (EL.makes TRole.the-type TRole′.the-plain 𝓤 H A (s .d .role) _ (LL.owed TConn.the-type TConn′.the-laws (s .d) _ (s .is) .1 .1 .1 .1 .1 .0), (EL.makes TKind.the-type TKind′.the-plain 𝓤 H A kind _ gkind, (uint-makes 𝓤 H A W w64 (s .i) _ (refl, s .sized), tt)))) (id⊢ 𝓤 _) (i′ s) (uint-vals w64) (uint-tells w64) (λ r ws. id⊢ 𝓤 _)
+          (and-then ! (load ! (from ! (fld ! refl (stop !))) (look-in ! 24 (sub ! 4 refl (whole !)))) (and-then ! (load ! (from ! (fld ! refl (stop !))) (look-in ! 24 (sub ! 5 refl (whole !)))) (and-then ! (load ! (from ! (stop !)) (look ! 26 refl)) (and-then ! (load ! (from ! (stop !)) (look ! 30 refl)) (and-then ! (load ! (from ! (stop !)) (look ! 22 refl)) (no-more !)))))) (λ gi. land ! (from ! (stop !)) (store ! 22 refl (tt, record { fits = gi .1 })) $
           assigns ! (of-opd ! (load ! (from ! (fld ! refl (stop !))) (look-in ! 30 (sub ! 1 refl (whole !))))) (from ! (stop !)) (init ! 14 refl (tt, record { fits = gb .0 })) $
           assigns ! (bin ! (load ! (from ! (stop !)) (look ! 14 refl)) (load ! (from ! (stop !)) (look ! 22 refl)) tt) (from ! (stop !)) (init ! 12 refl (tt, tt)) $
           move ! (2 ∷ 3 ∷ 4 ∷ 5 ∷ 0 ∷ 1 ∷ []) $

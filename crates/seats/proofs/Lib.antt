@@ -1,0 +1,4 @@
+pub mod Same
+pub mod Mirror
+pub mod Client
+pub mod Pairs
