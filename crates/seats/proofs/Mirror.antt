@@ -218,9 +218,6 @@ module _ (h : State) (s r : List ℕ) (at : ℕ) (kind : Kind) (x : Exchanged (h
   unfolding frameTable
   frame-leaves = λ i. withBoth (conns i) (tables i)
     where
-      gate : Bool
-      gate = gateAt (h .conn) (h .table) .passes
-
       conns : tookFrameOf (across (h .conn)) (h .table) r at kind .conn ≡ across (tookFrameOf (h .conn) (h .table) s at kind .conn)
       conns =
           frame-conn (over h) r at kind
