@@ -22,7 +22,7 @@ answer_of n = first every_answer n
 
 pub again : (a : Answer) → answer_of (number_of a) ≡ a
 unfolding first answer_of
-again a = elim a [
+again a = elim a as (λ (k : Answer). answer_of (number_of k) ≡ k) [
   | Accepted ↦ refl
   | Done ↦ refl
   | FlowControl ↦ refl

@@ -1,4 +1,6 @@
 // The fixed list of answers (docs/RULES.md, "Answer numbers"): every call of every crate answers from it.
+#![tactic(auto)]
+
 ghost use Rattle.std.specs.Prelude.{◌≡◌};
 ghost use Rattle.answers.specs.Answers.{number_of};
 

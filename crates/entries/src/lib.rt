@@ -1,5 +1,6 @@
 // An entry of the stream table (docs/RULES.md, "Streams and credit"): credit, furthest end and final size, and whether it fits by
 // itself. What a frame or a local call may do to it is said by the crates above.
+#![tactic(auto)]
 ghost use Rattle.std.specs.Prelude.{◌≡◌};
 ghost use Rattle.entries.specs.Entry.{final_of};
 ghost use Rattle.entries.specs.Fitting.{size_fits, is_fresh, entry_fits_as};

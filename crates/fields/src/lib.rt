@@ -1,4 +1,5 @@
 // The type and the fields of a frame, whatever packet carries it: read, and judged (RFC 9000, 12.4 and 19; docs/RULES.md, "For a frame").
+#![tactic(auto)]
 pub mod faults;
 pub mod heads;
 

@@ -1,4 +1,5 @@
 // Frames (RFC 9000, 12.4 and 19): one frame read at a place of a payload, in the order of docs/RULES.md, "For a frame".
+#![tactic(auto)]
 mod assembly;
 
 ghost use Rattle.std.specs.Prelude.{◌≡◌};

@@ -1,4 +1,6 @@
 // The kinds of packet that carry frames, the space that numbers each (RFC 9000, 12.3 and 17), and the two ends of a connection (1.2).
+#![tactic(auto)]
+
 ghost use Rattle.std.specs.Prelude.{◌≡◌};
 ghost use Rattle.kinds.specs.Kinds.{space_of};
 

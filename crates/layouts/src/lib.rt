@@ -1,4 +1,5 @@
 // The figures of RFC 9000, section 19: what stands after a frame's type, by a table of layouts.
+#![tactic(auto)]
 pub mod pieces;
 pub mod table;
 pub mod types;

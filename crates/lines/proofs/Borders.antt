@@ -3,7 +3,7 @@
 use mathlib.Core.Path.{refl}
 use Rattle.text.specs.Text.{every}
 use Rattle.text.specs.Decimal.{value_from, is_digit, parsed_of}
-use Rattle.hex.specs.Hex.{is_pairs, bytes_in, pairs_of}
+use Rattle.hexes.specs.Hex.{is_pairs, bytes_in, pairs_of}
 use Rattle.dumps.specs.Digits.{half_of, is_half}
 use Rattle.search.specs.Words.{before, same_of}
 use Rattle.wire.specs.Writing.{writes}

@@ -2,9 +2,9 @@
 use Rattle.std.specs.Prelude.{ℕ, ◌-◌, ◌^◌, ◌≡◌, Bool, true, false, List, [], ◌∷◌, ◌++◌, map, replicate}
 use Rattle.text.specs.Decimal.{is_digit, parsed_of}
 use Rattle.text.specs.declared.decimal.Parsed.TheVariants as Parsed'
-use Rattle.hex.specs.Hex.{pairs_of}
+use Rattle.hexes.specs.Hex.{pairs_of}
 use Rattle.dumps.specs.Digits.{half_of}
-use Rattle.hex.specs.declared.Pairs.TheVariants as Pairs'
+use Rattle.hexes.specs.declared.Pairs.TheVariants as Pairs'
 use Rattle.lines.specs.declared.words.Signed.TheVariants.{Plus, Minus, Wrong}
 use Rattle.lines.specs.declared.gather.Line.{Line}
 use Rattle.lines.specs.declared.gather.Line.TheVariants.{Kept, TooLong}

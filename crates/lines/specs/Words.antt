@@ -5,9 +5,9 @@ use Rattle.text.specs.Text.{every}
 use Rattle.text.specs.Decimal.{parsed_of}
 use Rattle.text.specs.declared.decimal.Parsed.{Parsed}
 use Rattle.text.specs.declared.decimal.Parsed.TheVariants as Parsed'
-use Rattle.hex.specs.Hex.{pairs_of}
-use Rattle.hex.specs.declared.Pairs.{Pairs}
-use Rattle.hex.specs.declared.Pairs.TheVariants.{Are}
+use Rattle.hexes.specs.Hex.{pairs_of}
+use Rattle.hexes.specs.declared.Pairs.{Pairs}
+use Rattle.hexes.specs.declared.Pairs.TheVariants.{Are}
 use Rattle.search.specs.Words.{before, same_of}
 use Rattle.lines.specs.declared.words.Signed.{Signed}
 use Rattle.lines.specs.declared.words.Signed.TheVariants.{Plus, Minus, Wrong}

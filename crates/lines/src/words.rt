@@ -3,7 +3,7 @@ ghost use Rattle.std.specs.Prelude.{◌≡◌, ◌≤◌, length, drop};
 ghost use Rattle.lines.specs.Words.{count_of, behind_blank, word_of, as_signed, signed_of, bytes_of};
 ghost use Rattle.text.specs.Decimal.{parsed_of};
 
-use hex::Pairs;
+use hexes::Pairs;
 use text::decimal;
 use text::decimal::Parsed;
 
@@ -98,5 +98,5 @@ pub fn bytes(word: &[u8], out: &mut [u8]) -> Pairs
     if search::same(word, b"-") {
         return Pairs::Are { count: 0 };
     }
-    hex::read(word, out)
+    hexes::read(word, out)
 }

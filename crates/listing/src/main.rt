@@ -1,4 +1,5 @@
 // Lists the frames of one 1-RTT payload, read from standard input into the small connection (docs/RULES.md, "The listing").
+#![tactic(auto)]
 mod output;
 mod walk;
 

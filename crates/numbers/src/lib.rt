@@ -1,4 +1,6 @@
 // Packet numbers (RFC 9000, 17.1, A.2 and A.3): what a truncated number stands for, and how many bytes to send.
+#![tactic(auto)]
+
 ghost use Rattle.std.specs.Prelude.{◌≡◌, ◌≤◌};
 ghost use Rattle.numbers.specs.Numbers.{window_of, in_range, recovered_of, length_after, length_of};
 

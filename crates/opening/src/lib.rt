@@ -1,5 +1,6 @@
 // How a connection is opened (docs/RULES.md, "Local calls"): 103 for a limit above its ceiling, 120 for a table of another
 // length, and the entries as opening sets them.
+#![tactic(auto)]
 ghost use Rattle.std.specs.Prelude.{◌≡◌, ◌/◌, replicate};
 ghost use Rattle.halves.specs.Stream.{most_streams, entries};
 ghost use Rattle.entries.specs.Entry.{fresh};

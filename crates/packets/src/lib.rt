@@ -1,4 +1,5 @@
 // A packet before its frames (docs/RULES.md, "Taking a packet"): the order of checks up to them.
+#![tactic(auto)]
 pub mod checks;
 
 use answers::Answer;

@@ -3,7 +3,7 @@
 use crate::spoils::Spoil;
 use crate::{line, spoils};
 use calls::Call;
-use hex::Pairs;
+use hexes::Pairs;
 use kinds::{Kind, Role, Space};
 use lines::words;
 use lines::words::Signed;

@@ -1,5 +1,5 @@
 // The words of a line, by their place in it: as a name, a number or bytes.
-use hex::Pairs;
+use hexes::Pairs;
 use lines::words;
 use lines::words::Signed;
 use text::decimal;

@@ -1,4 +1,5 @@
 // Calls read from standard input, one a line, each run and answered by one line: a way to try the core from a script.
+#![tactic(auto)]
 mod alone;
 mod commands;
 mod line;

@@ -37,7 +37,7 @@ pub fn bytes(out: &mut [u8; 16384], at: usize, s: &[u8], from: usize, len: usize
         return text(out, o, b"-");
     }
     let end = from + len;
-    after(hex::write(out, o, &s[from..end]), o)
+    after(hexes::write(out, o, &s[from..end]), o)
 }
 
 fn first(to: i32, s: &[u8], len: usize) {

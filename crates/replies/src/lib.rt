@@ -1,4 +1,5 @@
 // What a local call answers and leaves (docs/RULES.md, "Local calls"), of a connection and of ONE entry of its table, by value.
+#![tactic(auto)]
 ghost use Rattle.std.specs.Prelude.{◌≡◌};
 ghost use Rattle.halves.specs.Stream.{half_of};
 ghost use Rattle.streams.specs.Conn.{limited_to, with_count};

@@ -1,6 +1,7 @@
 // A ring of 128 words, a bit for each number: what is marked in it, and its runs. The words are lent, since a ring by value is
 // a copy of 1 KB for each call. The number n has the bit n % 64 of the word n / 64 % 128. No function here is a call for a host: each is
 // a part of one that takes a record, and what it answers of words that are no record is still fixed by its contract.
+#![tactic(auto)]
 ghost use Rattle.std.specs.Prelude.{◌≡◌, ◌-◌, ◌*◌, ◌<◌, max, min};
 ghost use Rattle.ring.specs.Bits.{bit_at, alike, marked, unmarked};
 ghost use Rattle.ring.specs.declared.Run.TheVariants.{Span};

@@ -1,5 +1,6 @@
 // What a frame may ask of the streams, and rules 1 to 5 of docs/RULES.md, "Streams and credit", on a connection and ONE entry of its
 // table, by value: one function each, and the answers that they give together.
+#![tactic(auto)]
 ghost use Rattle.std.specs.Prelude.{◌≡◌, ◌-◌};
 ghost use Rattle.rules.specs.Rules;
 

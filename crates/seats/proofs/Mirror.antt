@@ -139,7 +139,7 @@ module _ (h k : State) (sh : Sized h) (sk : Sized k) (a : Agree h k) where
 -- ---- a frame exchanged
 
 exchanged_asks : (role : Role) (kind : Kind) (f : Frame) → view_of (other_of role) kind (exchanged_frame f) ≡ view_of role kind f
-exchanged_asks role kind f = elim f [
+exchanged_asks role kind f = elim f as (λ (k : Frame). view_of (other_of role) kind (exchanged_frame k) ≡ view_of role kind k) [
   | Padding ↦ refl
   | Ping ↦ refl
   | Ack largest delay count first at ↦ refl

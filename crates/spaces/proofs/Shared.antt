@@ -16,7 +16,7 @@ abbrev last : List ℕ
 last = 2 ∷ 3 ∷ []
 
 pub shared : (k : Kind) → OneOf last (tag_of kind.the_type k) → space_of k ≡ Application
-shared k = elim k [
+shared k = elim k as (λ (j : Kind). OneOf last (tag_of kind.the_type j) → space_of j ≡ Application) [
   | Initial ↦ λ o. absurd (miss last 0 tt o)
   | Handshake ↦ λ o. absurd (miss last 1 tt o)
   | ZeroRtt ↦ λ o. refl

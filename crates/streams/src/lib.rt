@@ -1,5 +1,6 @@
 // A connection in its parts (docs/RULES.md, "Streams and credit"): how it is read and changed, by value. What a frame or a
 // local call may do to it is said by the crates above.
+#![tactic(auto)]
 ghost use Rattle.std.specs.Prelude.{◌≡◌, ◌<◌, max};
 ghost use Rattle.halves.specs.Stream.{half_of};
 ghost use Rattle.streams.specs.Conn.{is_open, opened_of, count_of, initial_of, marked_as, open_to, index_of, next_of, handed_out_of, limits_fit};

@@ -1,6 +1,7 @@
 // The bytes of a text in hexadecimal, as a person copies it out of a capture: the text is read from standard input in
 // pieces, whatever its length, and the bytes go to standard output. At the first character that cannot stand where it
 // does the program stops, and says the place on standard error.
+#![tactic(auto)]
 mod say;
 
 use dumps::Taken;

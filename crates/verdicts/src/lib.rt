@@ -1,4 +1,5 @@
 // The verdict on a frame for the connection and the one entry that it looks at, by value: its answer, and what it leaves of both.
+#![tactic(auto)]
 ghost use Rattle.std.specs.Prelude.{◌≡◌};
 ghost use Rattle.entries.specs.Entry.{reached};
 ghost use Rattle.rules.specs.declared.View.TheVariants.{Ends};

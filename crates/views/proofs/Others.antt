@@ -21,7 +21,7 @@ abbrev plains : List ℕ
 plains = 0 ∷ 1 ∷ 6 ∷ 7 ∷ 9 ∷ 11 ∷ 12 ∷ 14 ∷ 15 ∷ 16 ∷ 17 ∷ 18 ∷ 21 ∷ []
 
 pub plain : (role : Role) (kind : Kind) (f : Frame) → OneOf plains (tag_of frame.the_type f) → Nothing ≡ view_of role kind f
-plain role kind f = elim f [
+plain role kind f = elim f as (λ (k : Frame). OneOf plains (tag_of frame.the_type k) → Nothing ≡ view_of role kind k) [
   | Padding ↦ λ o. refl
   | Ping ↦ λ o. refl
   | Ack largest delay count first at ↦ λ o. absurd (miss plains 2 tt o)
@@ -51,7 +51,7 @@ abbrev endless : List ℕ
 endless = 1 ∷ 2 ∷ 3 ∷ 4 ∷ 5 ∷ []
 
 pub elsewhere : (v : View) → OneOf endless (tag_of view.the_type v) → place_of 0 ≡ frame_place v
-elsewhere v = elim v [
+elsewhere v = elim v as (λ (k : View). OneOf endless (tag_of view.the_type k) → place_of 0 ≡ frame_place k) [
   | Ends id end fin ↦ λ o. absurd (miss endless 0 tt o)
   | Blocks id ↦ λ o. refl
   | ForSender id ↦ λ o. refl

@@ -1,12 +1,12 @@
 -- The law of writing, once for all that is written: what was refused left the output as it was, what was accepted stands at its place and ends where it was answered, and all else stays.
 -- Assumes nothing.
 use mathlib.Core.Path.{◌≡◌, refl, sym, ◌∙◌, ap, subst}
-use mathlib.Core.Bool.{Bool, true, false, not}
+use mathlib.Core.Bool.{Bool, true, false}
 use mathlib.Core.List.{List, [], ◌∷◌, ◌++◌}
 use mathlib.Core.Logic.{◌⊎◌, inl, inr, ⊎_elim}
 use Prim.Native.Nat.{ℕ, suc, ◌+◌, ◌≤◌, ◌<◌}
 use native.Mathlib.Omega.{arith}
-use borrow.Author.Tests.{ltb-true, ltb-false, lt-ltb, le-ltb, leb-true, leb-false, not-true, not-false}
+use borrow.Author.Tests.{ltb-true, ltb-false, lt-ltb, le-ltb, leb-true, leb-false}
 use lib.Dec.{ltb, leb}
 use lib.ListN.{length, get_or, set, length-append}
 use lib.Seq.{sets, length-sets, get_or-set_other}
@@ -43,13 +43,13 @@ module _ (out : List ℕ) (at : ℕ) where
 
   -- the same by a test for the room of n bytes, which are all that is to be written
   module _ (l : List ℕ) (n : ℕ) (long : length l ≡ n) {room : Bool} (told : room ≡ leb (at + n) (length out)) where
-    pub lacked : not room ≡ true → (Refused NoRoom, out) ≡ writes (Bytes l) out at
-    lacked e = let h = leb-false (at + n) (length out) (sym told ∙ not-true room e) in sym (no_room l (omega arith))
+    pub lacked : room ≡ false → (Refused NoRoom, out) ≡ writes (Bytes l) out at
+    lacked e = let h = leb-false (at + n) (length out) (sym told ∙ e) in sym (no_room l (omega arith))
 
-    pub room_for : not room ≡ false → at + n ≤ length out
-    room_for e = leb-true (at + n) (length out) (sym told ∙ not-false room e)
+    pub room_for : room ≡ true → at + n ≤ length out
+    room_for e = leb-true (at + n) (length out) (sym told ∙ e)
 
-    pub filled : not room ≡ false → writes (Bytes l) out at ≡ (To (at + n), sets out at l)
+    pub filled : room ≡ true → writes (Bytes l) out at ≡ (To (at + n), sets out at l)
     filled e = rw (all_written l (omega (arith, room_for e)), long)
 
 -- by the outcome: what holds of a refusal, and of what was accepted

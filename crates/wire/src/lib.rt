@@ -1,4 +1,6 @@
 // Numbers on the wire (RFC 9000, section 16): read, sized and written.
+#![tactic(auto)]
+
 ghost use Rattle.std.specs.Prelude.{◌≡◌, ◌+◌, ◌≤◌, ◌<◌, ◌^◌, leb, length};
 ghost use Rattle.std.proofs.lemmas.List.Edits.{sets};
 ghost use Rattle.wire.specs.Number.{big_endian, spelled, number_at, bytes_of, size_of};
