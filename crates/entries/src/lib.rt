@@ -1,13 +1,14 @@
 // An entry of the stream table (docs/RULES.md, "Streams and credit"): credit, furthest end and final size, and whether it fits by
 // itself. What a frame or a local call may do to it is said by the crates above.
 #![tactic(auto)]
+
 ghost use Rattle.std.specs.Prelude.{◌≡◌};
 ghost use Rattle.entries.specs.Entry.{final_of};
 ghost use Rattle.entries.specs.Fitting.{size_fits, is_fresh, entry_fits_as};
 
 // An entry of the stream table. `size` is the final size, and `Entry::UNKNOWN` as long as there is none.
 #[repr(C)]
-#[derive(Drop)]
+#[derive(Clone, Copy)]
 pub struct Entry {
     pub credit: u64,
     pub end: u64,
@@ -15,7 +16,7 @@ pub struct Entry {
 }
 
 // A final size, if it is known.
-#[derive(Drop)]
+#[derive(Clone, Copy)]
 pub enum Final {
     Unknown,
     Known { size: u64 },

@@ -1,6 +1,7 @@
 // A stream by its half and ordinal (RFC 9000, 2.1): who opens it, and where its entry stands in the table. Half and ordinal are read
 // off the ID that the stream has at a server; a client's IDs are turned into such before anything else is asked of them.
 #![tactic(auto)]
+
 ghost use Rattle.std.specs.Prelude.{◌≡◌};
 ghost use Rattle.halves.specs.Seat.{exchanged_of, seated_of};
 ghost use Rattle.halves.specs.Stream.{stream_of, id_of, peers, place_of};
@@ -8,7 +9,7 @@ ghost use Rattle.halves.specs.Stream.{stream_of, id_of, peers, place_of};
 use kinds::Role;
 
 // Halves by number: 0 the peer's two-way streams, 1 our two-way ones, 2 the peer's one-way, 3 our one-way.
-#[derive(Drop)]
+#[derive(Clone, Copy)]
 pub struct Stream {
     pub half: usize,
     pub ordinal: u64,

@@ -1,6 +1,7 @@
 // How a connection is opened (docs/RULES.md, "Local calls"): 103 for a limit above its ceiling, 120 for a table of another
 // length, and the entries as opening sets them.
 #![tactic(auto)]
+
 ghost use Rattle.std.specs.Prelude.{◌≡◌, ◌/◌, replicate};
 ghost use Rattle.halves.specs.Stream.{most_streams, entries};
 ghost use Rattle.entries.specs.Entry.{fresh};
@@ -13,7 +14,7 @@ use kinds::Role;
 use streams::{Conn, Limits, Mark};
 
 // What opening a connection answers. A refused opening gives a connection that advertises nothing and is closed.
-#[derive(Drop)]
+#[derive(Clone, Copy)]
 pub struct Opened {
     pub answer: Answer,
     pub conn: Conn,

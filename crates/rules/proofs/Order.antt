@@ -1,7 +1,7 @@
 -- Rules 1 and 2 come before the others: a frame that they refuse is refused with their answer, and one that they let pass is judged by rules 3 to 5.
 -- Assumes nothing.
 use Prim.Native.Nat.{ℕ}
-use mathlib.Core.Path.{◌≡◌, refl, sym}
+use mathlib.Core.Path.{◌≡◌, refl}
 use mathlib.Core.Bool.{Bool, true, false}
 use Rattle.answers.specs.Choice.{◌⇒◌∣◌}
 use Rattle.answers.specs.Answers.{accepts}

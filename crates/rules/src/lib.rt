@@ -1,6 +1,7 @@
 // What a frame may ask of the streams, and rules 1 to 5 of docs/RULES.md, "Streams and credit", on a connection and ONE entry of its
 // table, by value: one function each, and the answers that they give together.
 #![tactic(auto)]
+
 ghost use Rattle.std.specs.Prelude.{◌≡◌, ◌-◌};
 ghost use Rattle.rules.specs.Rules;
 
@@ -13,7 +14,7 @@ use streams::Conn;
 // What a frame asks of the streams: to take a stream's data up to an end; to note that a stream is blocked, or something
 // for our sending half of one; to note an acknowledgement; to close the connection; or nothing. A stream stands by the ID
 // that it has at a server, whichever end we are.
-#[derive(Drop)]
+#[derive(Clone, Copy)]
 pub enum View {
     Ends { id: u64, end: u64, fin: bool },
     Blocks { id: u64 },

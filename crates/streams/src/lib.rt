@@ -1,6 +1,7 @@
 // A connection in its parts (docs/RULES.md, "Streams and credit"): how it is read and changed, by value. What a frame or a
 // local call may do to it is said by the crates above.
 #![tactic(auto)]
+
 ghost use Rattle.std.specs.Prelude.{◌≡◌, ◌<◌, max};
 ghost use Rattle.halves.specs.Stream.{half_of};
 ghost use Rattle.streams.specs.Conn.{is_open, opened_of, count_of, initial_of, marked_as, open_to, index_of, next_of, handed_out_of, limits_fit};
@@ -9,7 +10,7 @@ use answers::Answer;
 use kinds::{Role, Space};
 
 // The closing mark: none, a code and the type of the frame that gave it, or the peer's own closing.
-#[derive(Drop)]
+#[derive(Clone, Copy)]
 pub enum Mark {
     Open,
     Code { answer: Answer, ty: u64 },
@@ -18,7 +19,7 @@ pub enum Mark {
 
 // What a connection advertises: its credit; how many two-way and how many one-way streams the peer may open; and the
 // initial credit of a stream of each half that receives.
-#[derive(Drop)]
+#[derive(Clone, Copy)]
 pub struct Limits {
     pub credit: u64,
     pub counts: [u64; 2],
@@ -27,7 +28,7 @@ pub struct Limits {
 
 // A connection: what it advertises, how many streams of each half are open, the total counted against its credit, the
 // next packet number of each space, its closing mark, and which end of it we are.
-#[derive(Drop)]
+#[derive(Clone, Copy)]
 pub struct Conn {
     pub limits: Limits,
     pub opened: [u64; 4],
@@ -38,7 +39,7 @@ pub struct Conn {
 }
 
 // What a call answers: a number where it hands one out, else 0; and the connection after it.
-#[derive(Drop)]
+#[derive(Clone, Copy)]
 pub struct Called {
     pub answer: Answer,
     pub number: u64,

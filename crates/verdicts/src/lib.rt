@@ -1,5 +1,6 @@
 // The verdict on a frame for the connection and the one entry that it looks at, by value: its answer, and what it leaves of both.
 #![tactic(auto)]
+
 ghost use Rattle.std.specs.Prelude.{◌≡◌};
 ghost use Rattle.entries.specs.Entry.{reached};
 ghost use Rattle.rules.specs.declared.View.TheVariants.{Ends};
@@ -11,7 +12,7 @@ use rules::View;
 use streams::{Conn, Mark};
 
 // A verdict, with the connection and the entry after it.
-#[derive(Drop)]
+#[derive(Clone, Copy)]
 pub struct Judged {
     pub answer: Answer,
     pub conn: Conn,
