@@ -1,5 +1,6 @@
 // The figures of RFC 9000, section 19: what stands after a frame's type, by a table of layouts.
 #![tactic(auto)]
+
 pub mod pieces;
 pub mod table;
 pub mod types;
