@@ -1,5 +1,6 @@
 // Splitting a datagram (RFC 9000, 17.2 and 17.3; RFC 8999, 5): one packet's header from the rest of it.
 #![tactic(auto)]
+
 ghost use Rattle.std.specs.Prelude.{◌≡◌, ◌+◌, ◌≤◌, ◌<◌, length, get_or};
 ghost use Rattle.datagram.specs.Header.{whole_of};
 ghost use Rattle.datagram.specs.Split.{none, negotiation_of, retry_of, numbered_of, initial_of, version_one_of, long_of, next_of};

@@ -1,6 +1,7 @@
 // What every version of QUIC has in common (RFC 8999, 5.1): the version and both connection IDs of a long header, and bytes
 // after their own number.
 #![tactic(auto)]
+
 ghost use Rattle.std.specs.Prelude.{◌≡◌, ◌≤◌, ◌<◌, length};
 ghost use Rattle.wire.specs.Number.{big_endian, plain_at};
 ghost use Rattle.invariants.specs.Invariant.{bytes_after, invariant_of};

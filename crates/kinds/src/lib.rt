@@ -4,7 +4,7 @@
 ghost use Rattle.std.specs.Prelude.{◌≡◌};
 ghost use Rattle.kinds.specs.Kinds.{space_of};
 
-#[derive(Drop)]
+#[derive(Clone, Copy)]
 pub enum Kind {
     Initial,
     Handshake,
@@ -13,14 +13,14 @@ pub enum Kind {
 }
 
 // Which end of a connection we are: the one that takes it up, or the one that starts it.
-#[derive(Drop)]
+#[derive(Clone, Copy)]
 pub enum Role {
     Server,
     Client,
 }
 
 // The three spaces of packet numbers.
-#[derive(Drop)]
+#[derive(Clone, Copy)]
 pub enum Space {
     Initial,
     Handshake,

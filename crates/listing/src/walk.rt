@@ -1,28 +1,27 @@
 // The listing of a payload, page by page.
 use crate::output;
 use pages::Page;
+use std::io;
 use streams::Mark;
 
 // Rows for the frames of a payload, a page at a time; answers how the connection stands after them. A page has a row at
 // least and a payload no more frames than bytes, so there are no more pages than bytes.
-fn walk(first: Page, s: &[u8], buf: &mut [u8]) -> Mark {
+fn walk(to: &impl Print, first: Page, s: &[u8], buf: &mut [u8]) -> io::Result<Mark> {
     let mut now = first;
-    let mut left = s.len();
-    while 0 < left {
+    for _ in 0..s.len() {
         let next = pages::fill(now, s, buf);
         now = next;
-        output::flush(buf, now.used);
-        left -= 1;
+        output::flush(to, buf, now.used)?;
         if !now.full {
-            left = 0;
+            break;
         }
     }
     let conn = now.conn;
-    conn.mark
+    Ok(conn.mark)
 }
 
 // Rows and last line.
-pub fn list(s: &[u8]) {
+pub fn list(to: &impl Print, s: &[u8]) -> io::Result<()> {
     let small = pages::small();
     let opened = small.opened;
     let conn = opened.conn;
@@ -34,7 +33,7 @@ pub fn list(s: &[u8]) {
         used: 0,
         full: false,
     };
-    let mut buf = io::large_buffer();
-    let mark = walk(first, s, &mut buf);
-    output::standing(report::taken::last(s.len(), mark));
+    let mut buf = [0u8; 65536];
+    let mark = walk(to, first, s, &mut buf)?;
+    output::standing(to, report::taken::last(s.len(), mark))
 }

@@ -1,5 +1,6 @@
 // Calls read from standard input, one a line, each run and answered by one line: a way to try the core from a script.
 #![tactic(auto)]
+
 mod alone;
 mod commands;
 mod line;
@@ -14,6 +15,8 @@ mod within;
 use lines::gather;
 use lines::gather::Line;
 use session::Session;
+use std::io;
+use std::io::Read;
 
 // What was read leaves: the session, what is kept of a line, the line's number, and whether there may be more to read.
 #[derive(Drop)]
@@ -25,7 +28,15 @@ struct Fed {
 }
 
 // Takes bytes as they come: each newline ends a line.
-fn feed(session: Session, row: &mut [u8; 4096], line: Line, number: u64, s: &[u8]) -> Fed {
+fn feed(
+    to: &impl Print,
+    err: &impl Print,
+    session: Session,
+    row: &mut [u8; 4096],
+    line: Line,
+    number: u64,
+    s: &[u8],
+) -> io::Result<Fed> {
     let mut now = session;
     let mut kept = line;
     let mut count = number;
@@ -35,57 +46,58 @@ fn feed(session: Session, row: &mut [u8; 4096], line: Line, number: u64, s: &[u8
         at += got.used;
         kept = got.line;
         if got.ended {
-            now = turns::ended(now, row, kept, count);
+            now = turns::ended(to, err, now, row, kept, count)?;
             kept = Line::Kept { len: 0 };
             count = reasons::next(count);
         }
     }
-    Fed {
+    Ok(Fed {
         session: now,
         line: kept,
         number: count,
         more: true,
-    }
+    })
 }
 
 // Reads once, and takes what came.
-fn some(session: Session, row: &mut [u8; 4096], line: Line, number: u64) -> Fed {
+fn some(
+    rt: &(impl Input + Print),
+    err: &impl Print,
+    session: Session,
+    row: &mut [u8; 4096],
+    line: Line,
+    number: u64,
+) -> io::Result<Fed> {
     let mut chunk = [0u8; 4096];
-    let got = libc::read(libc::STDIN_FILENO, &mut chunk);
-    if got <= 0 {
-        return Fed {
+    let n = rt.reader().read(&mut chunk)?;
+    if n == 0 {
+        return Ok(Fed {
             session,
             line,
             number,
             more: false,
-        };
+        });
     }
-    let n = io::count(got, &chunk);
-    feed(session, row, line, number, &chunk[..n])
+    feed(rt, err, session, row, line, number, &chunk[..n])
 }
 
-// Runs the last line, which may lack its newline.
-fn last(session: Session, row: &[u8; 4096], line: Line, number: u64) {
-    turns::ended(session, row, line, number);
-}
-
-// The turns are more than there can be reads: the loop ends with the input.
-fn main() {
+// The turns are more than there can be reads: the loop ends with the input. The last line may lack its newline.
+fn main(rt: HostRuntime) -> io::Result<()> {
+    let err = rt.stderr();
     let mut now = session::empty();
     // a line has at most so many bytes
     let mut row = [0u8; 4096];
     let mut line = Line::Kept { len: 0 };
     let mut number = 1;
-    let mut left = u64::MAX;
-    while 0 < left {
-        let fed = some(now, &mut row, line, number);
+    for _ in 0..u64::MAX {
+        let fed = some(&rt, &err, now, &mut row, line, number)?;
         now = fed.session;
         line = fed.line;
         number = fed.number;
-        left -= 1;
         if !fed.more {
-            left = 0;
+            break;
         }
     }
-    last(now, &row, line, number);
+    turns::ended(&rt, &err, now, &row, line, number)?;
+    Ok(())
 }

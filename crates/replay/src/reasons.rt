@@ -1,6 +1,7 @@
 // Why a line is no call, told by a line on standard error: standard output has the answers alone, which programs compare.
 use crate::say;
 use lines::words;
+use std::io;
 
 // The number after another. The largest stays, so that no input has too many lines.
 pub fn next(n: u64) -> u64 {
@@ -41,18 +42,18 @@ fn why(out: &mut [u8; 16384], at: usize, s: &[u8], word: usize) -> usize {
 }
 
 // A line that is no call, by its number and the place of the word that cannot stand there, 0 for the name's.
-pub fn no_call(number: u64, s: &[u8], word: usize) {
+pub fn no_call(err: &impl Print, number: u64, s: &[u8], word: usize) -> io::Result<()> {
     let mut out = [0u8; 16384];
     let o = say::labelled(&mut out, 0, b"line ", number);
     let p = why(&mut out, o, s, word);
     let len = say::text(&mut out, p, b"\n");
-    say::send(libc::STDERR_FILENO, &out, len);
+    say::send(err, &out, len)
 }
 
 // A line that the row does not hold.
-pub fn too_long(number: u64) {
+pub fn too_long(err: &impl Print, number: u64) -> io::Result<()> {
     let mut out = [0u8; 16384];
     let o = say::labelled(&mut out, 0, b"line ", number);
     let len = say::text(&mut out, o, b": more than 4,096 bytes\n");
-    say::send(libc::STDERR_FILENO, &out, len);
+    say::send(err, &out, len)
 }

@@ -1,4 +1,5 @@
 // What lines are written with: texts, numbers and bytes, each at a place of the output, telling the place after it.
+use std::io;
 use text::{decimal, put};
 use wire::Wrote;
 
@@ -40,16 +41,16 @@ pub fn bytes(out: &mut [u8; 16384], at: usize, s: &[u8], from: usize, len: usize
     after(hexes::write(out, o, &s[from..end]), o)
 }
 
-fn first(to: i32, s: &[u8], len: usize) {
+fn first(to: &impl Print, s: &[u8], len: usize) -> io::Result<()> {
     if s.len() < len {
-        return;
+        return Ok(());
     }
-    io::write_all(to, &s[0..len]);
+    to.write_all(&s[0..len])
 }
 
 // Writes the first bytes of the output, a line with its newline, to standard output or standard error at once.
-pub fn send(to: i32, out: &[u8; 16384], len: usize) {
-    first(to, out, len);
+pub fn send(to: &impl Print, out: &[u8; 16384], len: usize) -> io::Result<()> {
+    first(to, out, len)
 }
 
 // The answer of a writer, and the bytes that it wrote to the front of s.

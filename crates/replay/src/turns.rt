@@ -3,6 +3,7 @@ use crate::commands::Command;
 use crate::session::{Ran, Session};
 use crate::{alone, commands, reasons, say, within};
 use lines::gather::Line;
+use std::io;
 
 fn answer(now: Session, command: Command, s: &[u8], out: &mut [u8; 16384]) -> Ran {
     match command {
@@ -32,19 +33,25 @@ fn answer(now: Session, command: Command, s: &[u8], out: &mut [u8; 16384]) -> Ra
 }
 
 // Runs a line, and writes its answer with a newline, if it has one; then, if it is no call, the reason.
-fn run(now: Session, s: &[u8], number: u64) -> Session {
+fn run(
+    to: &impl Print,
+    err: &impl Print,
+    now: Session,
+    s: &[u8],
+    number: u64,
+) -> io::Result<Session> {
     let mut bytes = [0u8; 2048];
     let mut out = [0u8; 16384];
     let command = commands::read(s, &mut bytes);
     let ran = answer(now, command, &bytes, &mut out);
     if 0 < ran.len {
         let len = say::text(&mut out, ran.len, b"\n");
-        say::send(libc::STDOUT_FILENO, &out, len);
+        say::send(to, &out, len)?;
     }
     if let Command::What { word } = command {
-        reasons::no_call(number, s, word);
+        reasons::no_call(err, number, s, word)?;
     }
-    ran.session
+    Ok(ran.session)
 }
 
 // The first bytes of a row, all if there are fewer.
@@ -56,13 +63,20 @@ fn front(row: &[u8], len: usize) -> &[u8] {
 }
 
 // Runs the line that is kept at the front of a row; its number is for the reason, if it needs one.
-pub fn ended(now: Session, row: &[u8], line: Line, number: u64) -> Session {
+pub fn ended(
+    to: &impl Print,
+    err: &impl Print,
+    now: Session,
+    row: &[u8],
+    line: Line,
+    number: u64,
+) -> io::Result<Session> {
     match line {
-        Line::Kept { len } => run(now, front(row, len), number),
+        Line::Kept { len } => run(to, err, now, front(row, len), number),
         Line::TooLong => {
-            io::write_all(libc::STDOUT_FILENO, b"too long\n");
-            reasons::too_long(number);
-            now
+            to.write_all(b"too long\n")?;
+            reasons::too_long(err, number)?;
+            Ok(now)
         },
     }
 }

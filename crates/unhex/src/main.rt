@@ -2,9 +2,12 @@
 // pieces, whatever its length, and the bytes go to standard output. At the first character that cannot stand where it
 // does the program stops, and says the place on standard error.
 #![tactic(auto)]
+
 mod say;
 
 use dumps::Taken;
+use std::io;
+use std::io::Read;
 
 // How far the text is read: the first digit of a byte that has begun (16: none), the place of what comes next, and
 // whether there may be more to read.
@@ -23,61 +26,60 @@ fn stop(now: Progress) -> Progress {
     }
 }
 
-// Takes a piece: its bytes go out before anything is said of it, and where they cannot, nothing more is read.
-fn piece(now: Progress, s: &[u8]) -> Progress {
+// Takes a piece: its bytes go out before anything is said of it, and where they cannot, the program ends with the error.
+fn piece(rt: &impl Print, err: &impl Print, now: Progress, s: &[u8]) -> io::Result<Progress> {
     let mut out = [0u8; 4096];
     let taken = dumps::take(now.half, s, &mut out);
     match taken {
         Taken::All { half, len } => {
-            let sent = say::bytes(&out, len);
-            Progress {
+            let sent = say::bytes(rt, &out, len)?;
+            Ok(Progress {
                 half,
                 place: say::later(now.place, s.len() as u64),
                 more: sent,
-            }
+            })
         },
         Taken::Wrong { at, half, len } => {
-            say::bytes(&out, len);
-            say::wrong(say::later(now.place, at as u64), half);
-            stop(now)
+            say::bytes(rt, &out, len)?;
+            say::wrong(err, say::later(now.place, at as u64), half)?;
+            Ok(stop(now))
         },
         // no piece is longer than the output
-        Taken::NoRoom => stop(now),
+        Taken::NoRoom => Ok(stop(now)),
     }
 }
 
 // The end of the text: a byte that has begun lacks its second digit.
-fn end(now: Progress) -> Progress {
+fn end(err: &impl Print, now: Progress) -> io::Result<Progress> {
     if now.half < 16 {
-        say::wrong(now.place, now.half);
+        say::wrong(err, now.place, now.half)?;
     }
-    stop(now)
+    Ok(stop(now))
 }
 
-// Reads once, and takes what came. A read that fails counts as the end.
-fn some(now: Progress) -> Progress {
+// Reads once, and takes what came.
+fn some(rt: &(impl Input + Print), err: &impl Print, now: Progress) -> io::Result<Progress> {
     let mut chunk = [0u8; 4096];
-    let got = libc::read(libc::STDIN_FILENO, &mut chunk);
-    if got <= 0 {
-        return end(now);
+    let n = rt.reader().read(&mut chunk)?;
+    if n == 0 {
+        return end(err, now);
     }
-    let n = io::count(got, &chunk);
-    piece(now, &chunk[..n])
+    piece(rt, err, now, &chunk[..n])
 }
 
 // The turns are more than there can be reads: the loop ends with the text.
-fn main() {
+fn main(rt: HostRuntime) -> io::Result<()> {
+    let err = rt.stderr();
     let mut now = Progress {
         half: 16,
         place: 0,
         more: true,
     };
-    let mut left = u64::MAX;
-    while 0 < left {
-        now = some(now);
-        left -= 1;
+    for _ in 0..u64::MAX {
+        now = some(&rt, &err, now)?;
         if !now.more {
-            left = 0;
+            break;
         }
     }
+    Ok(())
 }

@@ -1,6 +1,7 @@
 // What the program writes: bytes to standard output, and a line on a wrong character to standard error.
 ghost use Rattle.std.specs.Prelude.{◌≡◌, ◌+◌, ◌-◌, ◌^◌, min};
 
+use std::io;
 use text::{decimal, put};
 use wire::Wrote;
 
@@ -14,20 +15,17 @@ pub fn later(place: u64, n: u64) -> u64
     place + n
 }
 
-// Writes the first bytes of an output, and answers whether all of them went.
-fn first(fd: i32, s: &[u8], len: usize) -> bool {
+// Writes the first bytes of an output, and answers whether it has so many.
+fn first(to: &impl Print, s: &[u8], len: usize) -> io::Result<bool> {
     if s.len() < len {
-        return false;
+        return Ok(false);
     }
-    io::write_all(fd, &s[0..len])
+    to.write_all(&s[0..len])?;
+    Ok(true)
 }
 
-pub fn bytes(out: &[u8; 4096], len: usize) -> bool {
-    first(libc::STDOUT_FILENO, out, len)
-}
-
-fn send(line: &[u8; 64], len: usize) {
-    first(libc::STDERR_FILENO, line, len);
+pub fn bytes(to: &impl Print, out: &[u8; 4096], len: usize) -> io::Result<bool> {
+    first(to, out, len)
 }
 
 // The place after what was written. The line has room for all that is said, so that nothing is left off.
@@ -55,10 +53,11 @@ fn fault(line: &mut [u8; 64], at: usize, half: u8) -> usize {
 }
 
 // One line on the character at a place.
-pub fn wrong(place: u64, half: u8) {
+pub fn wrong(err: &impl Print, place: u64, half: u8) -> io::Result<()> {
     let mut line = [0u8; 64];
     let mut at = text(&mut line, 0, b"place ");
     at = number(&mut line, at, place);
     at = fault(&mut line, at, half);
-    send(&line, at);
+    first(err, &line, at)?;
+    Ok(())
 }
