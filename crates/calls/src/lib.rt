@@ -1,6 +1,7 @@
 // The local calls (docs/RULES.md, "Local calls"): one enum, the entry that a call looks at, and its answer on a connection and ONE
 // entry, by value. Handing out a packet number is none of them: it looks at neither the table nor the closing mark.
 #![tactic(auto)]
+
 ghost use Rattle.std.specs.Prelude.{◌≡◌};
 ghost use Rattle.halves.specs.Stream.{place_of};
 ghost use Rattle.entries.specs.Entry.{is_known};
@@ -12,7 +13,7 @@ use kinds::Role;
 use streams::Conn;
 
 // A local call. A type is that on the wire.
-#[derive(Drop)]
+#[derive(Clone, Copy)]
 pub enum Call {
     RaiseCredit { new: u64 },
     RaiseStream { id: u64, new: u64 },

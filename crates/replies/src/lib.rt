@@ -1,5 +1,6 @@
 // What a local call answers and leaves (docs/RULES.md, "Local calls"), of a connection and of ONE entry of its table, by value.
 #![tactic(auto)]
+
 ghost use Rattle.std.specs.Prelude.{◌≡◌};
 ghost use Rattle.halves.specs.Stream.{half_of};
 ghost use Rattle.streams.specs.Conn.{limited_to, with_count};
@@ -12,7 +13,7 @@ use halves::Stream;
 use streams::{Called, Conn};
 
 // What a call answers, with the entry after it.
-#[derive(Drop)]
+#[derive(Clone, Copy)]
 pub struct Replied {
     pub called: Called,
     pub entry: Entry,

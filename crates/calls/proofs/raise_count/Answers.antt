@@ -1,8 +1,7 @@
 -- `calls::raise_count` meets its contract: the tests are those of the definition, in its order.
-use borrow.Author.Rules.{rules}
 use native.Mathlib.Omega.{arith}
-use mathlib.Core.Path.{refl, sym, ap, ◌∙◌}
-use borrow.Author.Tests.{lt-ltb, le-ltb, not-true, not-false}
+use mathlib.Core.Path.{sym, ap, ◌∙◌}
+use borrow.Author.Tests.{lt-ltb, le-ltb}
 use Rattle.calls.specs.Calls.{reply_of}
 use Rattle.halves.specs.Stream.{peers}
 use Rattle.halves.specs.declared.Stream.{Stream}
