@@ -11,7 +11,7 @@ use numbers::Size;
 use wire::Number;
 
 // What the plain first byte tells: a packet of frames, or none that can be taken.
-#[derive(Drop)]
+#[derive(Clone, Copy)]
 pub enum Header {
     Carries { kind: Kind },
     NoPacket,

@@ -10,7 +10,7 @@ use answers::Answer;
 pub const LIMIT: u64 = 4611686018427387904;
 
 // How many bytes a packet number has in a header.
-#[derive(Drop)]
+#[derive(Clone, Copy)]
 pub enum Size {
     One,
     Two,
@@ -19,14 +19,14 @@ pub enum Size {
 }
 
 // What a truncated number stands for, or 111.
-#[derive(Drop)]
+#[derive(Clone, Copy)]
 pub enum Recovered {
     Is { number: u64 },
     Refused { answer: Answer },
 }
 
 // How many bytes to send a number in, or 103.
-#[derive(Drop)]
+#[derive(Clone, Copy)]
 pub enum Length {
     Is { size: Size },
     Refused { answer: Answer },

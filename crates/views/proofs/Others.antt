@@ -2,6 +2,7 @@
 -- Assumes nothing.
 use Prim.Native.Nat.{ℕ}
 use mathlib.Core.Path.{◌≡◌, refl}
+use mathlib.Core.Bool.{Bool}
 use mathlib.Core.List.{List, [], ◌∷◌}
 use denote.Enum.Declared.{tag_of}
 use types.Run.{OneOf, miss}
@@ -16,35 +17,40 @@ use Rattle.rules.specs.declared.View.{View}
 use Rattle.rules.specs.declared.View.TheVariants.{Ends, Blocks, ForSender, Acks, Closes, Nothing}
 use Rattle.rules.specs.contracts.View as view
 
--- the tags of the frames that ask nothing
-abbrev plains : List ℕ
-plains = 0 ∷ 1 ∷ 6 ∷ 7 ∷ 9 ∷ 11 ∷ 12 ∷ 14 ∷ 15 ∷ 16 ∷ 17 ∷ 18 ∷ 21 ∷ []
-
-pub plain : (role : Role) (kind : Kind) (f : Frame) → OneOf plains (tag_of frame.the_type f) → Nothing ≡ view_of role kind f
-plain role kind f = elim f as (λ (k : Frame). OneOf plains (tag_of frame.the_type k) → Nothing ≡ view_of role kind k) [
-  | Padding ↦ λ o. refl
-  | Ping ↦ λ o. refl
-  | Ack largest delay count first at ↦ λ o. absurd (miss plains 2 tt o)
-  | AckEcn largest delay count first at ect0 ect1 ce ↦ λ o. absurd (miss plains 3 tt o)
-  | ResetStream id code size ↦ λ o. absurd (miss plains 4 tt o)
-  | StopSending id code ↦ λ o. absurd (miss plains 5 tt o)
-  | Crypto offset at len ↦ λ o. refl
-  | NewToken at len ↦ λ o. refl
-  | Stream id offset fin at len ↦ λ o. absurd (miss plains 8 tt o)
-  | MaxData maximum ↦ λ o. refl
-  | MaxStreamData id maximum ↦ λ o. absurd (miss plains 10 tt o)
-  | MaxStreams uni maximum ↦ λ o. refl
-  | DataBlocked maximum ↦ λ o. refl
-  | StreamDataBlocked id maximum ↦ λ o. absurd (miss plains 13 tt o)
-  | StreamsBlocked uni maximum ↦ λ o. refl
-  | NewConnectionId sequence retire at len token ↦ λ o. refl
-  | RetireConnectionId sequence ↦ λ o. refl
-  | PathChallenge at ↦ λ o. refl
-  | PathResponse at ↦ λ o. refl
-  | ConnectionClose code ty at len ↦ λ o. absurd (miss plains 19 tt o)
-  | ApplicationClose code at len ↦ λ o. absurd (miss plains 20 tt o)
-  | HandshakeDone ↦ λ o. refl
-]
+-- what a match that names these frames leaves asks nothing
+pub plain : (role : Role) (kind : Kind) (f : Frame)
+    → ((x0 x1 x2 x3 x4 : ℕ) → f ≡ Ack x0 x1 x2 x3 x4 → ⊥)
+    → ((x0 x1 x2 x3 x4 x5 x6 x7 : ℕ) → f ≡ AckEcn x0 x1 x2 x3 x4 x5 x6 x7 → ⊥)
+    → ((x0 x1 x2 : ℕ) → f ≡ ResetStream x0 x1 x2 → ⊥)
+    → ((x0 x1 : ℕ) → f ≡ StopSending x0 x1 → ⊥)
+    → ((x0 x1 : ℕ) (x2 : Bool) (x3 x4 : ℕ) → f ≡ Stream x0 x1 x2 x3 x4 → ⊥)
+    → ((x0 x1 : ℕ) → f ≡ MaxStreamData x0 x1 → ⊥)
+    → ((x0 x1 : ℕ) → f ≡ StreamDataBlocked x0 x1 → ⊥)
+    → ((x0 x1 x2 x3 : ℕ) → f ≡ ConnectionClose x0 x1 x2 x3 → ⊥)
+    → ((x0 x1 x2 : ℕ) → f ≡ ApplicationClose x0 x1 x2 → ⊥)
+    → Nothing ≡ view_of role kind f
+plain role kind Padding a b d e g h i j k = refl
+plain role kind Ping a b d e g h i j k = refl
+plain role kind (Ack x0 x1 x2 x3 x4) a b d e g h i j k = absurd (a x0 x1 x2 x3 x4 refl)
+plain role kind (AckEcn x0 x1 x2 x3 x4 x5 x6 x7) a b d e g h i j k = absurd (b x0 x1 x2 x3 x4 x5 x6 x7 refl)
+plain role kind (ResetStream x0 x1 x2) a b d e g h i j k = absurd (d x0 x1 x2 refl)
+plain role kind (StopSending x0 x1) a b d e g h i j k = absurd (e x0 x1 refl)
+plain role kind (Crypto x0 x1 x2) a b d e g h i j k = refl
+plain role kind (NewToken x0 x1) a b d e g h i j k = refl
+plain role kind (Stream x0 x1 x2 x3 x4) a b d e g h i j k = absurd (g x0 x1 x2 x3 x4 refl)
+plain role kind (MaxData x0) a b d e g h i j k = refl
+plain role kind (MaxStreamData x0 x1) a b d e g h i j k = absurd (h x0 x1 refl)
+plain role kind (MaxStreams x0 x1) a b d e g h i j k = refl
+plain role kind (DataBlocked x0) a b d e g h i j k = refl
+plain role kind (StreamDataBlocked x0 x1) a b d e g h i j k = absurd (i x0 x1 refl)
+plain role kind (StreamsBlocked x0 x1) a b d e g h i j k = refl
+plain role kind (NewConnectionId x0 x1 x2 x3 x4) a b d e g h i j k = refl
+plain role kind (RetireConnectionId x0) a b d e g h i j k = refl
+plain role kind (PathChallenge x0) a b d e g h i j k = refl
+plain role kind (PathResponse x0) a b d e g h i j k = refl
+plain role kind (ConnectionClose x0 x1 x2 x3) a b d e g h i j k = absurd (j x0 x1 x2 x3 refl)
+plain role kind (ApplicationClose x0 x1 x2) a b d e g h i j k = absurd (k x0 x1 x2 refl)
+plain role kind HandshakeDone a b d e g h i j k = refl
 
 -- the tags of all but `Ends`
 abbrev endless : List ℕ

@@ -1,5 +1,6 @@
 // What a frame asks of the streams, and the place of the entry that it looks at.
 #![tactic(auto)]
+
 ghost use Rattle.std.specs.Prelude.{◌≡◌};
 ghost use Rattle.views.specs.View.{end_of, view_of, frame_place};
 
