@@ -1,4 +1,5 @@
 // Text as lines, and lines as words.
 #![tactic(auto)]
+
 pub mod gather;
 pub mod words;

@@ -1,5 +1,6 @@
 // Words and lines: where they end, and whether two are the same.
 #![tactic(auto)]
+
 ghost use Rattle.std.specs.Prelude.{◌≡◌};
 ghost use Rattle.search.specs.Words.{find_of, same_of};
 

@@ -1,6 +1,7 @@
 // One frame of a payload as a step on a connection and ONE entry, and the gate that comes before any call. By value
 // (docs/RULES.md, "Taking a packet"): what a host's call does, apart from the lent table.
 #![tactic(auto)]
+
 pub mod frame;
 pub mod gates;
 

@@ -16,7 +16,7 @@ loop-at-init c = (search rules, search rules, c.requires.3, clear_none _ _)
 pub loop-at-preserved : goal.loop-at-preserved
 loop-at-preserved c =
     let p : (c.loop-at.at % 64 < c.if-to-at.hi) × (c.if-to-at.hi ≤ 64) × (c.loop-at.at + (c.if-to-at.hi - c.loop-at.at % 64) ≤ c.args.to) =
-        elim c.if-to-at.branch [ then-to-at w ↦ (omega arith, omega arith, omega arith) | else-to-at w ↦ (omega arith, omega arith, omega arith) ] in
+    elim c.if-to-at.branch [ then-to-at w ↦ (omega arith, omega arith, omega arith) | else-to-at w ↦ (omega arith, omega arith, omega arith) ] in
     let i = c.loop-at.invariant in
     let f : Fits w64 c.without.result = search rules in
     (omega arith, omega arith, whole_set _ _ _ (omega arith) f.fits i.2, clear_turn _ _ _ _ _ _ i.2.long i.0 p.0 p.1 (omega arith) c.without.ensures i.3)
