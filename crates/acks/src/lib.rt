@@ -1,6 +1,7 @@
 // The acknowledgement of a space (RFC 9000, 19.3): a record written as an ACK frame of at most 32 runs. Its numbers are gathered in the order
 // of the wire, five and two for each run but the first, and written as a row. docs/ACK.md has it for a lecture.
 #![tactic(auto)]
+
 ghost use Rattle.std.specs.Prelude.{◌≡◌, length};
 ghost use Rattle.wire.specs.Writing.{writes};
 ghost use Rattle.ring.specs.Bits.{marked};

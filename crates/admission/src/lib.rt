@@ -1,5 +1,6 @@
 // Which frames a packet of a kind may carry to a server and to a client (RFC 9000, Table 3 and 12.5).
 #![tactic(auto)]
+
 ghost use Rattle.std.specs.Prelude.{◌≡◌};
 ghost use Rattle.admission.specs.Admission.{except_early, only_one_rtt, early_or_one_rtt, reaches, from_servers, admitted};
 

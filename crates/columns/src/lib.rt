@@ -1,5 +1,6 @@
 // A row of the listing and its last line as text (docs/RULES.md, "The listing"): place, type, code and total of a frame in decimal, single blanks between them, and a newline.
 #![tactic(auto)]
+
 ghost use Rattle.std.specs.Prelude.{◌≡◌, ◌++◌, ◌+◌, ◌≤◌, length};
 ghost use Rattle.std.proofs.lemmas.List.Edits.{sets};
 ghost use Rattle.wire.specs.Writing.{Bytes, writes};

@@ -1,6 +1,7 @@
 // Bytes in hexadecimal as a person copies them out of a capture: two digits for each, in either case, with blanks and
 // newlines between bytes alone. A text may come in pieces.
 #![tactic(auto)]
+
 ghost use Rattle.std.specs.Prelude.{◌≡◌};
 ghost use Rattle.dumps.specs.Digits.{half_of};
 ghost use Rattle.dumps.specs.Dump.{begun_of, next_of, taken_of};

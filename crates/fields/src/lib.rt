@@ -1,5 +1,6 @@
 // The type and the fields of a frame, whatever packet carries it: read, and judged (RFC 9000, 12.4 and 19; docs/RULES.md, "For a frame").
 #![tactic(auto)]
+
 pub mod faults;
 pub mod heads;
 
@@ -10,7 +11,7 @@ use answers::Answer;
 use layouts::{Body, Numbers, pieces, table};
 
 // A frame's type and the place after it, or why there is none.
-#[derive(Drop)]
+#[derive(Clone, Copy)]
 pub enum Head {
     Type { ty: u64, next: usize },
     Refused { answer: Answer, ty: u64 },
@@ -18,7 +19,7 @@ pub enum Head {
 
 // A frame taken apart, the same for every type: its type, four numbers, places of bytes, and three numbers after
 // them. What a type does not have is 0.
-#[derive(Drop)]
+#[derive(Clone, Copy)]
 pub struct Parts {
     pub ty: u64,
     pub a: u64,

@@ -1,5 +1,6 @@
 // Frames (RFC 9000, 12.4 and 19): one frame read at a place of a payload, in the order of docs/RULES.md, "For a frame".
 #![tactic(auto)]
+
 mod assembly;
 
 ghost use Rattle.std.specs.Prelude.{◌≡◌};
@@ -13,7 +14,7 @@ use kinds::{Kind, Role};
 // A frame. Numbers have the names of section 19, in short. Bytes are places in the slice that the frame was read
 // from: `at` and `len`, or `at` alone for PATH data (8 bytes), `token` for a reset token (16 bytes), and `at` for
 // the further ranges of an ACK, of which there are `count`.
-#[derive(Drop)]
+#[derive(Clone, Copy)]
 pub enum Frame {
     Padding,
     Ping,
@@ -113,7 +114,7 @@ pub enum Frame {
 
 // What reading a frame answers: the frame, its type as on the wire and the place after it; or the code that
 // refuses it and its type, 0 if none was read.
-#[derive(Drop)]
+#[derive(Clone, Copy)]
 pub enum Reading {
     Got { frame: Frame, ty: u64, next: usize },
     Refused { answer: Answer, ty: u64 },

@@ -1,5 +1,6 @@
 // The plain first byte of a packet and the bytes of its number (RFC 9000, 17.1 to 17.3).
 #![tactic(auto)]
+
 ghost use Rattle.std.specs.Prelude.{◌≡◌, ◌≤◌};
 ghost use Rattle.wire.specs.Number.{plain_at};
 ghost use Rattle.numbers.specs.Numbers.{bytes_in};

@@ -1,11 +1,12 @@
 // The figures of RFC 9000, section 19: what stands after a frame's type, by a table of layouts.
 #![tactic(auto)]
+
 pub mod pieces;
 pub mod table;
 pub mod types;
 
 // What stands between a frame's first numbers and its end.
-#[derive(Drop)]
+#[derive(Clone, Copy)]
 pub enum Tail {
     Nothing,
     // Length (i), and so many bytes
@@ -21,7 +22,7 @@ pub enum Tail {
 }
 
 // The layout of a type: how many numbers follow it, what stands after them, and how many numbers after that.
-#[derive(Drop)]
+#[derive(Clone, Copy)]
 pub struct Layout {
     pub numbers: u8,
     pub tail: Tail,

@@ -1,5 +1,6 @@
 // The ranges of an ACK frame (RFC 9000, 19.3.1): checked as a whole, and walked downwards one by one.
 #![tactic(auto)]
+
 ghost use Rattle.std.specs.Prelude.{◌≡◌};
 ghost use Rattle.ranges.specs.Ranges.{below_of, range_at, ranges_at};
 ghost use Rattle.ranges.specs.Walk.{first_of, step_of};

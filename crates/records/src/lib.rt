@@ -1,5 +1,6 @@
 // The record of the last 8,192 packet numbers of a space (docs/RULES.md, "The record of a space"): a ring of 128 words, a bit for each number.
 #![tactic(auto)]
+
 ghost use Rattle.std.specs.Prelude.{◌≡◌, ◌+◌, ◌≤◌, ◌<◌, ◌^◌};
 ghost use Rattle.ring.specs.Parts.{Without, Put};
 ghost use Rattle.records.specs.Marks.{none_of, check_of, test_of};

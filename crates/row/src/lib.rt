@@ -1,5 +1,6 @@
 // Numbers on the wire in a row: written one after the other in shortest form, all of them or none.
 #![tactic(auto)]
+
 ghost use Rattle.std.specs.Prelude.{◌≡◌, true, ◌+◌, ◌≤◌, leb, length};
 ghost use Rattle.std.proofs.lemmas.List.Edits.{sets};
 ghost use Rattle.row.specs.Row.{in_range, size_all, bytes_all, row_draft};

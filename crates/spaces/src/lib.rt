@@ -1,5 +1,6 @@
 // The records of the three packet-number spaces together: whether all fit, and one number more in the space of a packet.
 #![tactic(auto)]
+
 ghost use Rattle.std.specs.Prelude.{◌≡◌};
 ghost use Rattle.kinds.specs.Kinds.{space_of};
 ghost use Rattle.spaces.specs.Spaces.{of_parts, records_fit, recorded_of};
