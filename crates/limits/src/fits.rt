@@ -6,14 +6,14 @@ use entries::Entry;
 use streams::Conn;
 
 // The sum of the ends so far, or an entry that does not fit.
-#[derive(Drop)]
+#[derive(Clone, Copy)]
 pub enum Summed {
     To { sum: u64 },
     Unfit,
 }
 
 // What the check of a half's entries asks of a connection.
-#[derive(Drop)]
+#[derive(Clone, Copy)]
 pub struct Part {
     pub credit: u64,
     pub opened: u64,

@@ -1,8 +1,3 @@
-pub mod Calls
-pub mod Cases
-pub mod Handed
-pub mod Leave
-pub mod Lent
 pub mod Long
 pub mod Tables
 pub mod Unique
