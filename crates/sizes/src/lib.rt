@@ -1,5 +1,6 @@
 // How many bytes a frame has when it is written (RFC 9000, 19), or 109 where it cannot be.
 #![tactic(auto)]
+
 mod pieces;
 
 ghost use Rattle.std.specs.Prelude.{◌≡◌, true, length};

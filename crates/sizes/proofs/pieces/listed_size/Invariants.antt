@@ -1,0 +1,12 @@
+use mathlib.Core.Path.{◌≡◌}
+use Prim.Native.Nat.{◌≤◌, ◌+◌}
+use lib.ListN.{length}
+use Rattle.row.specs.Row.{size_all}
+use Rattle.ranges.specs.Listed.{listed}
+use Rattle.sizes.proofs.pieces.listed_size.Given as goal
+
+abbrev pub invariant-loop-left : goal.invariant-loop-left
+invariant-loop-left l = (l.total + size_all (listed l.s l.place l.left) ≡ size_all (listed l.s l.from l.n)) × (size_all (listed l.s l.from l.n) ≤ length l.s)
+
+abbrev pub decreases-loop-left : goal.decreases-loop-left
+decreases-loop-left l = l.left
