@@ -25,13 +25,9 @@ slice_bounds-line-end c =
     row_within a.place a.ty a.code a.total c.field-after_place.ensures c.type_field-after_type.ensures c.field-after_code.ensures c.field-end.ensures
 
 pub slice_bounds-bytes-end : goal.slice_bounds-bytes-end
-<<<<<<< HEAD
-slice_bounds-bytes-end c = sym (length-take-le _ _ (slice_bounds-line-end c.before))
-=======
 slice_bounds-bytes-end c =
     let a = c.args in
     sym (length-take-le _ _ (row_within a.place a.ty a.code a.total c.field-after_place.ensures c.type_field-after_type.ensures c.field-after_code.ensures c.field-end.ensures))
->>>>>>> 1cdac52d99a72b88357ff66f52fe4b2e43fee96b
 
 pub returns : goal.returns
 returns c =

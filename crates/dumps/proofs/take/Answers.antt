@@ -26,15 +26,9 @@ loop-i-preserved c =
     let s = c.args.s.now in
     let v = c.loop-i.invariant in
     elim c.match-step.branch [
-<<<<<<< HEAD
-    | in-Between w ↦ rw (w.out-is, w.half-is, w.len-is) (omega arith, omega arith, v.2, v.3, passes s c.loop-i.half c.loop-i.i (omega arith) v.4 (e ∙ w.in-Between.is))
-    | in-Begun w ↦ rw (w.out-is, w.half-is, w.len-is) (omega arith, omega arith, v.2, v.3, opens s c.loop-i.half c.loop-i.i (omega arith) v.4 _ (e ∙ w.in-Begun.is))
-    | in-Byte w ↦ rw (w.out-is, w.half-is, w.len-is) (omega arith, omega arith, v.2, rw length-set v.3, stores s c.loop-i.half c.loop-i.i (omega arith) v.4 _ (e ∙ w.in-Byte.is))
-=======
       | in-Between w ↦ rw (w.out-is, w.half-is, w.len-is) (omega arith, omega arith, v.2, v.3, passes s c.loop-i.half c.loop-i.i (omega arith) v.4 (e ∙ w.in-Between.is))
       | in-Begun w ↦ rw (w.out-is, w.half-is, w.len-is) (omega arith, omega arith, v.2, v.3, opens s c.loop-i.half c.loop-i.i (omega arith) v.4 _ (e ∙ w.in-Begun.is))
       | in-Byte w ↦ rw (w.out-is, w.half-is, w.len-is) (omega arith, omega arith, v.2, rw length-set v.3, stores s c.loop-i.half c.loop-i.i (omega arith) v.4 _ (e ∙ w.in-Byte.is))
->>>>>>> 1cdac52d99a72b88357ff66f52fe4b2e43fee96b
     ]
 
 pub returns : goal.returns

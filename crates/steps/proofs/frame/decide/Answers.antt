@@ -2,13 +2,13 @@
 use borrow.Author.Rules.{rules}
 use mathlib.Core.Path.{◌∙◌}
 use Rattle.steps.specs.Step.{decided_of}
-use Rattle.answers.proofs.Accepts.{refused}
+use Rattle.answers.proofs.Accepts.{refuses}
 use Rattle.steps.proofs.frame.decide.Goals as goal
 
 pub returns-in_default : goal.returns-in_default
 unfolding decided_of
 returns-in_default c =
-    c.decided.ensures ∙ rw (c.marked-conn.ensures, refused c.args.a.answer c.in_default.keys2)
+    c.decided.ensures ∙ rw (c.marked-conn.ensures, refuses c.args.a.answer c.in_default.not-Accepted)
 
 pub returns : goal.returns
 unfolding decided_of
