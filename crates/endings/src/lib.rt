@@ -1,5 +1,6 @@
 // A packet after its frames (docs/RULES.md, "Taking a packet"): its answer, and its number recorded if no frame was refused.
 #![tactic(auto)]
+
 ghost use Rattle.std.specs.Prelude.{◌≡◌};
 ghost use Rattle.endings.specs.Finish.{finish_of};
 
