@@ -1,5 +1,6 @@
 // The pieces of a frame (RFC 9000, 19), each all or none: the numbers before and after its body, bytes after their length; and the place where the next piece goes.
 #![tactic(auto)]
+
 ghost use Rattle.std.specs.Prelude.{◌≡◌};
 ghost use Rattle.wire.specs.Writing.{writes};
 ghost use Rattle.row.specs.Row.{row_draft};

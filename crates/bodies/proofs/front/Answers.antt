@@ -1,0 +1,17 @@
+-- `bodies::front` meets its contract: a layout has at most four numbers before its body, so that with the type they are among the five.
+use mathlib.Core.Path.{sym}
+use native.Mathlib.Omega.{arith}
+use lib.Seq.{length-take-le}
+use Rattle.sizes.proofs.Bounds.{at_most_four}
+use Rattle.bodies.proofs.front.Goals as goal
+
+pub slice_bounds-numbers-end : goal.slice_bounds-numbers-end
+slice_bounds-numbers-end c =
+    rw c.find-l.ensures (omega (arith, (at_most_four c.args.p.ty).0))
+
+pub slice_bounds-write-end : goal.slice_bounds-write-end
+slice_bounds-write-end c = sym (length-take-le _ _ (rw c.find-l.ensures (omega (arith, (at_most_four c.args.p.ty).0))))
+
+pub returns : goal.returns
+returns c =
+    rw c.find-l.ensures at c.write.ensures
