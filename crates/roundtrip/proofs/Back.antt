@@ -8,7 +8,6 @@ use native.Mathlib.Omega.{arith}
 use borrow.Author.Tests.{eq-eqb}
 use lib.ListN.{length}
 use Rattle.wire.specs.Number.{Stands, bytes_of, size_of, shortest}
-use Rattle.wire.specs.declared.Number.TheVariants.{Is}
 use Rattle.wire.proofs.Standing.{left, right}
 use Rattle.wire.proofs.Back as number
 use Rattle.wire.proofs.Exit.{length_bytes}

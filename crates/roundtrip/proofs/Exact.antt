@@ -8,7 +8,7 @@ use native.Mathlib.Nat.{zero-add}
 use native.Mathlib.Omega.{arith}
 use borrow.Author.Tests.{not-false}
 use lib.ListN.{length, get_or}
-use Rattle.answers.specs.declared.Answer.TheVariants.{NoRoom, Unwritable}
+use Rattle.answers.specs.declared.Answer.TheVariants.{Unwritable}
 use Rattle.answers.proofs.Distinct.{impossible}
 use Rattle.wire.specs.Number.{Stands}
 use Rattle.wire.specs.Writing.{Bytes, writes, Written}

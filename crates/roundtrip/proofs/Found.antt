@@ -12,7 +12,6 @@ use lib.ListN.{length, get_or, length-append}
 use lib.Seq.{slice}
 use Rattle.answers.proofs.Distinct.{impossible}
 use Rattle.wire.specs.Number.{Stands, bytes_of, size_of}
-use Rattle.wire.specs.declared.Number.TheVariants.{Is}
 use Rattle.wire.proofs.Standing.{left, right, head}
 use Rattle.wire.proofs.Back as number
 use Rattle.wire.proofs.Exit.{length_bytes}

@@ -1,5 +1,5 @@
 -- The rules of writing frames at their borders: they hold the definitions to docs/RULES.md. Beside each, its sentence.
-use Rattle.std.specs.Prelude.{ℕ, ◌+◌, ◌-◌, ◌^◌, ◌≡◌, false, List, [], ◌∷◌, ◌++◌, map, replicate}
+use Rattle.std.specs.Prelude.{ℕ, ◌-◌, ◌^◌, ◌≡◌, false, List, [], ◌∷◌, ◌++◌, map, replicate}
 use Rattle.answers.specs.declared.Answer.TheVariants as Answer'
 use Rattle.wire.specs.Writing.{writes, Bytes, Never, number_draft}
 use Rattle.wire.specs.declared.Wrote.{Wrote}

@@ -64,7 +64,7 @@ module _ (f : Content) (low : f.ty < 2 ^ 62) (t : takes f ≡ true) (out : List 
       → (q ≡ at + length (head f)) × (one ≡ sets out at (head f))
   head_put e p =
       let r = row.range_take ((layout_of f.ty).numbers + 1) (heading f) (range_more f.ty _ low (range_four _ _ _ _ (taking.low f t).a (taking.low f t).b (taking.low f t).c (taking.low f t).d)) in
-      let d = placed (head f) out at (rw (row.in_range _ r, head_row f) at e) (omega (arith, lengths)) in (p ∙ d.0, d.1)
+      let d = placed (head f) out at (rw (row.in_range_law _ r, head_row f) at e) (omega (arith, lengths)) in (p ∙ d.0, d.1)
 
   module _ {one : List ℕ} {q : ℕ} (x : (q ≡ at + length (head f)) × (one ≡ sets out at (head f))) where
     pub room_one : q + length (middle f) ≤ length one
@@ -81,4 +81,4 @@ module _ (f : Content) (low : f.ty < 2 ^ 62) (t : takes f ≡ true) (out : List 
           let k = rw (spelled_pieces f) at room in
           let n = joined (middle f) (back f) one q y.1 y.0 (rw (x.1, length-sets) (omega (arith, x.0, lengths))) in
           let h = joined (head f) (middle f ++ back f) out at x.1 x.0 (omega (arith, k, length-append (head f) (middle f ++ back f))) in
-          rw (row.in_range _ u) at e ∙ n ∙ h ∙ rw (← spelled_pieces f)
+          rw (row.in_range_law _ u) at e ∙ n ∙ h ∙ rw (← spelled_pieces f)

@@ -1,5 +1,6 @@
 // Frames written (RFC 9000, 19): a frame, and the slice that its places refer to, into an output.
 #![tactic(auto)]
+
 mod pieces;
 
 ghost use Rattle.std.specs.Prelude.{◌≡◌, true, ◌+◌, ◌≤◌, ◌<◌, ◌^◌, length};
