@@ -1,6 +1,7 @@
 // Whether a frame contradicts the bytes that ONE stream holds (docs/RULES.md, "Ordered bytes"), which are lent: a ring of 4,096 bytes and a mark for
 // each. The byte of the place p has the slot p % 4096; it is held where p is from `read` up to `held` and its mark is set.
 #![tactic(auto)]
+
 ghost use Rattle.std.specs.Prelude.{◌≡◌};
 ghost use Rattle.clashes.specs.Held.{room_for, clashes_in};
 

@@ -1,4 +1,5 @@
 pub mod Settled
 pub mod Ones
 pub mod Taking
+pub mod Tails
 pub mod Unique

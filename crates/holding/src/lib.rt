@@ -1,6 +1,7 @@
 // The bytes that ONE stream holds (docs/RULES.md, "Ordered bytes"): a ring of 4,096 bytes and a mark for each, lent. The byte of the place p has
 // the slot p % 4096; it is held where p is from `read` up to `held` and its mark is set.
 #![tactic(auto)]
+
 ghost use Rattle.std.specs.Prelude.{◌≡◌, length};
 ghost use Rattle.holding.specs.Kept.{offered_of, ring_kept, marks_kept, handed_of, handed_out};
 

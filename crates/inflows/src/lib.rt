@@ -1,6 +1,7 @@
 // What the table keeps of a half that receives (docs/RULES.md, "Ordered bytes"): its entry, how many of its bytes were read, and
 // how far its bytes reach; and whether that fits. The sizes of what is lent are asked here too.
 #![tactic(auto)]
+
 ghost use mathlib.Core.Path.{◌≡◌};
 ghost use mathlib.Core.Bool.{◌&&◌};
 ghost use Rattle.inflows.specs.Inflow.{begun};

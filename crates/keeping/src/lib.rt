@@ -1,6 +1,7 @@
 // A frame kept among the bytes that ONE stream holds (docs/RULES.md, "Ordered bytes"): its bytes are stored, the marks of the places that it jumps
 // over are cleared, and its own are set.
 #![tactic(auto)]
+
 ghost use Rattle.std.specs.Prelude.{◌≡◌, ◌+◌, max};
 ghost use Rattle.answers.specs.Choice.{◌⇒◌∣◌};
 ghost use Rattle.clashes.specs.Held.{room_for};

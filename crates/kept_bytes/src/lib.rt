@@ -1,6 +1,7 @@
 // A stream's bytes with its accounts (docs/RULES.md, "Ordered bytes"): one frame as a step on a connection, ONE inflow and the lent
 // rings, and a stream read. The rules of the accounts come first, and are not asked again here.
 #![tactic(auto)]
+
 pub mod handing;
 pub mod taken;
 

@@ -1,6 +1,7 @@
 // What the host does by itself (docs/RULES.md, "Local calls"): it makes a local call, hands out a number.
 // The stream table is lent at each call, and nothing of it is copied but the one entry at hand.
 #![tactic(auto)]
+
 ghost use Rattle.std.specs.Prelude.{◌≡◌};
 ghost use Rattle.streams.specs.Conn.{handed_out_of};
 ghost use Rattle.local.specs.Calling.{called_at, called_table};

@@ -1,6 +1,7 @@
 // A stream table owned by value, for a program that has no memory to lend: each call lends it to the crate whose call it is,
 // and hands it back. The calls for packets and those that the host makes by itself are those of `owned_calls`.
 #![tactic(auto)]
+
 ghost use Rattle.std.specs.Prelude.{◌≡◌};
 ghost use Rattle.owned.specs.Owned.{owned_opened_of, owned_frame_of};
 

@@ -1,5 +1,6 @@
 // The other calls with a stream table owned by value: each lends it to the crate whose call it is, and hands it back.
 #![tactic(auto)]
+
 ghost use Rattle.std.specs.Prelude.{◌≡◌};
 ghost use Rattle.owned_calls.specs.Owned.{owned_packet_of, owned_call_of};
 

@@ -1,5 +1,6 @@
 // The listing of a payload (docs/RULES.md, "The listing"), as many rows at a time as an output holds.
 #![tactic(auto)]
+
 ghost use Rattle.std.specs.Prelude.{◌≡◌};
 ghost use Rattle.pages.specs.Pages.{small_of, one_more_of, page_of};
 

@@ -1,6 +1,7 @@
 // The marks of one stream's places (docs/RULES.md, "Ordered bytes"): 64 words that are lent, a bit for each of 4,096 places that follow one
 // another. The place p has the bit p % 64 of the word p / 64 % 64. Marks are looked at and made a word at a time.
 #![tactic(auto)]
+
 ghost use Rattle.std.specs.Prelude.{◌≡◌, ◌+◌, ◌-◌, ◌≤◌, ◌<◌, ◌^◌, length, eqb};
 ghost use Rattle.answers.specs.Choice.{◌⇒◌∣◌};
 ghost use Rattle.ring.specs.Parts.{Without};

@@ -1,6 +1,7 @@
 // What comes from the wire (docs/RULES.md, "Taking a packet"): a packet taken. The stream table is lent at each call,
 // and nothing of it is copied but the one entry at hand. 120 comes before all else, in one pass over the table.
 #![tactic(auto)]
+
 ghost use Rattle.std.specs.Prelude.{◌≡◌};
 ghost use Rattle.receive.specs.Taking.{took_of, took_table};
 

@@ -2,6 +2,7 @@
 // a copy of 1 KB for each call. The number n has the bit n % 64 of the word n / 64 % 128. No function here is a call for a host: each is
 // a part of one that takes a record, and what it answers of words that are no record is still fixed by its contract.
 #![tactic(auto)]
+
 ghost use Rattle.std.specs.Prelude.{◌≡◌, ◌-◌, ◌*◌, ◌<◌, max, min};
 ghost use Rattle.ring.specs.Bits.{bit_at, alike, marked, unmarked};
 ghost use Rattle.ring.specs.declared.Run.TheVariants.{Span};

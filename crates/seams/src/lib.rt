@@ -1,6 +1,7 @@
 // Bytes of a ring of 4,096 that is lent (docs/RULES.md, "Ordered bytes"): stored, compared and taken at places that follow one another. The byte
 // of the place p has the slot p % 4096, so a row of places has a part up to the ring's seam and one after it.
 #![tactic(auto)]
+
 ghost use Rattle.std.specs.Prelude.{◌≡◌, ◌+◌, ◌-◌, ◌%◌, ◌≤◌, min, length};
 ghost use Rattle.ring.specs.Parts.{Decides};
 ghost use Rattle.seams.specs.Seam.{fit_of, stored_of, same_of, taken_out};

@@ -1,6 +1,7 @@
 // One frame on the lent table (docs/RULES.md, "For a frame"): the step of a walk, and the call that takes a frame. Nothing of the
 // table is copied but the one entry at hand.
 #![tactic(auto)]
+
 ghost use Rattle.std.specs.Prelude.{◌≡◌};
 ghost use Rattle.single.specs.Single.{stepped_at, step_table, took_frame_of, frame_table};
 

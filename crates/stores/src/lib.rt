@@ -1,6 +1,7 @@
 // The stores of all 192 streams (docs/RULES.md, "Ordered bytes"): 4,096 bytes and 64 words of marks for each, one stream after the other, lent. The
 // parts of the stream at a place are lent on; no other stream's part is touched.
 #![tactic(auto)]
+
 ghost use Rattle.std.specs.Prelude.{◌≡◌};
 ghost use Rattle.stores.specs.Stores.{offered_in, rings_kept, marks_kept_in, handed_in, handed_out_in};
 

@@ -1,6 +1,7 @@
 // The lent stream table as a whole: set as opening sets it, and the check that it fits its connection, half after half in one
 // pass. No other call looks at more of it than one entry.
 #![tactic(auto)]
+
 ghost use Rattle.std.specs.Prelude.{◌≡◌, ◌+◌, ◌-◌, ◌≤◌, length};
 ghost use Rattle.limits.specs.Fits;
 ghost use Rattle.opening.specs.Opening.{opening_when};

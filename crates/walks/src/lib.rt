@@ -1,5 +1,6 @@
 // The walk over all frames of a payload on the lent table (docs/RULES.md, "Taking a packet").
 #![tactic(auto)]
+
 ghost use Rattle.std.specs.Prelude.{◌≡◌};
 ghost use Rattle.walks.specs.Walk.{stopped_of, walk_table};
 

@@ -10,14 +10,14 @@ returns-in_default c = rw (sym c.read.ensures ∙ c.in_default.is)
 pub returns-in_default-read : goal.returns-in_default-read
 unfolding range_at
 returns-in_default-read c = rw (
-      sym c.read.ensures ∙ c.in-Is.is,
-      sym c.read-2.ensures ∙ c.in_default-read.is,
-    )
+  sym c.read.ensures ∙ c.in-Is.is,
+  sym c.read-2.ensures ∙ c.in_default-read.is,
+)
 
 pub returns : goal.returns
 unfolding range_at
 returns c = rw (
-      sym c.read.ensures ∙ c.in-Is.is,
-      sym c.read-2.ensures ∙ c.in-Is-read.is,
-    )
+  sym c.read.ensures ∙ c.in-Is.is,
+  sym c.read-2.ensures ∙ c.in-Is-read.is,
+)
     c.below.ensures

@@ -20,7 +20,7 @@ ending : (c : Then-others-ne0) → let l = c.loop-end in
     (n ≤ (l.end - 1) % 64) × (lowest (alike a.words.now a.came) l.end ≡ l.end - n)
 ending c =
     let told : Others (get_or c.args.words.now ((c.loop-end.end - 1) / 64 % 128) 0) c.args.came c.if-came.others =
-        elim c.if-came.branch [ then-came w ↦ rw (w.others-is, w.if-came.true) (missing_ones _ _ w.complement.ensures) | else-came w ↦ rw (w.others-is, w.if-came.false) (λ i l. refl) ] in
+    elim c.if-came.branch [ then-came w ↦ rw (w.others-is, w.if-came.true) (missing_ones _ _ w.complement.ensures) | else-came w ↦ rw (w.others-is, w.if-came.false) (λ i l. refl) ] in
     part _ c.args.came _ _ (omega arith) told c.if-others-ne0.true
 
 pub loop-end-init : goal.loop-end-init
@@ -42,7 +42,7 @@ pub loop-end-preserved : goal.loop-end-preserved
 loop-end-preserved c =
     let i = c.loop-end.invariant in
     let told : Others (get_or c.args.words.now ((c.loop-end.end - 1) / 64 % 128) 0) c.args.came c.if-came.others =
-        elim c.if-came.branch [ then-came w ↦ rw (w.others-is, w.if-came.true) (missing_ones _ _ w.complement.ensures) | else-came w ↦ rw (w.others-is, w.if-came.false) (λ i l. refl) ] in
+    elim c.if-came.branch [ then-came w ↦ rw (w.others-is, w.if-came.true) (missing_ones _ _ w.complement.ensures) | else-came w ↦ rw (w.others-is, w.if-came.false) (λ i l. refl) ] in
     (omega arith, i.1 ∙ whole _ c.args.came _ _ (omega arith) told c.if-others-ne0.false)
 
 pub returns : goal.returns
