@@ -1,3 +1,4 @@
 pub mod Padding
 pub mod Steps
+pub mod Turns
 pub mod Unique

@@ -49,12 +49,12 @@ module _ (s : List ℕ) (kind : Kind) (c : Conn) (t : List Entry) where
   leaves a at l z = rw (asks a at l z) refl
 
   -- what a walk makes of a frame that leaves x, having looked at a place
-  abbrev goes : ℕ → ℕ → Decided → ℕ → Stopped × List Entry
+  abbrev pub goes : ℕ → ℕ → Decided → ℕ → Stopped × List Entry
   goes k at x place =
       x.stepped.more ⇒ reached k x.stepped.conn (set t place x.entry) s x.stepped.next kind
       ∣ (stopped x.stepped.conn at x.stepped.answer, set t place x.entry)
 
-  stepped_on : (k at : ℕ) → at < length s → reached (suc k) c t s at kind ≡ goes k at (decided_at c t s at kind) (request_at c.role s at kind).place
+  pub stepped_on : (k at : ℕ) → at < length s → reached (suc k) c t s at kind ≡ goes k at (decided_at c t s at kind) (request_at c.role s at kind).place
   unfolding walk_from
   stepped_on k at l = rw (lt-leb (length s) at l) (through bare (decided_at c t s at kind).stepped.more _ _)
 

@@ -11,7 +11,7 @@ use steps::Stopped;
 use streams::Conn;
 
 // The place where a walk stops, and the answer there.
-#[derive(Drop)]
+#[derive(Clone, Copy)]
 pub struct Stop {
     pub place: usize,
     pub answer: Answer,
