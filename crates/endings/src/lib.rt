@@ -11,7 +11,7 @@ use steps::Stopped;
 use streams::Conn;
 
 // The answer of a call for a packet, the place where its walk stopped, the connection and the records.
-#[derive(Drop)]
+#[derive(Clone, Copy)]
 pub struct Took {
     pub answer: Answer,
     pub place: usize,

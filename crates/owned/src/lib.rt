@@ -11,13 +11,13 @@ use opening::Opened;
 use steps::TookFrame;
 use streams::{Conn, Limits};
 
-#[derive(Drop)]
+#[derive(Clone, Copy)]
 pub struct OwnedOpened {
     pub opened: Opened,
     pub table: [Entry; Conn::ENTRIES],
 }
 
-#[derive(Drop)]
+#[derive(Clone, Copy)]
 pub struct OwnedFrame {
     pub took: TookFrame,
     pub table: [Entry; Conn::ENTRIES],

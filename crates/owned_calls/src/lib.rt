@@ -10,13 +10,13 @@ use entries::Entry;
 use spaces::Records;
 use streams::{Called, Conn};
 
-#[derive(Drop)]
+#[derive(Clone, Copy)]
 pub struct OwnedPacket {
     pub took: Took,
     pub table: [Entry; Conn::ENTRIES],
 }
 
-#[derive(Drop)]
+#[derive(Clone, Copy)]
 pub struct OwnedCall {
     pub called: Called,
     pub table: [Entry; Conn::ENTRIES],

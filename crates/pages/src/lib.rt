@@ -13,7 +13,7 @@ use wire::Wrote;
 
 // How far a listing is: the connection and its table, the place of the next frame, how much of the output is used, and
 // whether the next row waits for room.
-#[derive(Drop)]
+#[derive(Clone, Copy)]
 pub struct Page {
     pub conn: Conn,
     pub table: [Entry; Conn::ENTRIES],

@@ -12,7 +12,7 @@ use answers::Answer;
 use ring::Run;
 
 // A record is a value, handed in and handed back. The number n has the bit n % 64 of the word n / 64 % 128.
-#[derive(Drop)]
+#[derive(Clone, Copy)]
 pub struct Record {
     pub words: [u64; 128],
     // One above the largest number, 0 if there is none.

@@ -10,7 +10,7 @@ use kinds::Kind;
 use records::Record;
 
 // The records of the three spaces.
-#[derive(Drop)]
+#[derive(Clone, Copy)]
 pub struct Records {
     pub initial: Record,
     pub handshake: Record,

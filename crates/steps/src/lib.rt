@@ -13,7 +13,7 @@ use streams::Conn;
 
 // What a frame at a place asks for: the place of the entry that it looks at, the place after the frame, its type and what
 // it asks of the streams; or the code that refuses it as it stands.
-#[derive(Drop)]
+#[derive(Clone, Copy)]
 pub struct Request {
     pub place: usize,
     pub next: usize,
@@ -23,7 +23,7 @@ pub struct Request {
 }
 
 // What a frame leaves: the connection, its answer, whether the walk goes on, and where.
-#[derive(Drop)]
+#[derive(Clone, Copy)]
 pub struct Stepped {
     pub conn: Conn,
     pub answer: Answer,
@@ -32,14 +32,14 @@ pub struct Stepped {
 }
 
 // The same with the entry that it looked at.
-#[derive(Drop)]
+#[derive(Clone, Copy)]
 pub struct Decided {
     pub stepped: Stepped,
     pub entry: Entry,
 }
 
 // Where a walk over frames stopped, with which answer: at the frame that is refused or closes the connection, or after the last one.
-#[derive(Drop)]
+#[derive(Clone, Copy)]
 pub struct Stopped {
     pub conn: Conn,
     pub place: usize,
@@ -48,7 +48,7 @@ pub struct Stopped {
 
 // What a call for one frame shows the caller: the type if it could be read, the frame with the place after it if its
 // fields could.
-#[derive(Drop)]
+#[derive(Clone, Copy)]
 pub enum Shown {
     Nothing,
     Typed { ty: u64 },
@@ -56,7 +56,7 @@ pub enum Shown {
 }
 
 // The answer of a call for one frame.
-#[derive(Drop)]
+#[derive(Clone, Copy)]
 pub struct TookFrame {
     pub answer: Answer,
     pub shown: Shown,
@@ -64,7 +64,7 @@ pub struct TookFrame {
 }
 
 // Whether a call may go on, and the answer that refuses it.
-#[derive(Drop)]
+#[derive(Clone, Copy)]
 pub struct Gate {
     pub passes: bool,
     pub answer: Answer,
