@@ -243,7 +243,7 @@ module _ (role : Role) (o : Limits) (l : List Event) (h : State) (w : Lifted rol
 lift : (role : Role) (o : Limits) (l : List Event) (h : State) (xs : List Act) → Lifted role o l h → Lifted role o (heard_after h xs l) (kept h xs)
 unfolding kept heard_after
 lift role o l h [] a = a
-lift role o l h (x ∷ xs) a = lift role o _ (acted h x) xs (goes_by role o l h a x)
+lift role o l h (x ∷ xs) a = lift role o (noted h x l) (acted h x) xs (goes_by role o l h a x)
 
 -- ---- opening
 

@@ -9,10 +9,10 @@ pub returns-in_default : goal.returns-in_default
 unfolding with_row
 returns-in_default c =
     let a = c.args in
-    by_row _ _ a.out.now _ c.take_frame-after.ensures c.taken_row.ensures (ap (with_row _ a.s.now c.take_frame-after.result) c.in_default.is)
+    by_row a.p _ a.out.now _ c.take_frame-after.ensures c.taken_row.ensures (ap (with_row a.p a.s.now c.take_frame-after.result) c.in_default.is)
 
 pub returns : goal.returns
 unfolding with_row
 returns c =
     let a = c.args in
-    rw c.after.ensures (by_row _ _ a.out.now _ c.take_frame-after.ensures c.taken_row.ensures (ap (with_row _ a.s.now c.take_frame-after.result) c.in-To.is))
+    rw c.after.ensures (by_row a.p _ a.out.now _ c.take_frame-after.ensures c.taken_row.ensures (ap (with_row a.p a.s.now c.take_frame-after.result) c.in-To.is))
