@@ -203,7 +203,7 @@ module _ (role : Role) (o : Limits) (t : List Entry) (xs : List Act) (h : WasHos
       open_has : unserved (opened_of now.conn (id % 4)) ≡ false → Has id
       open_has e =
           let w = or_false (not (receives (id % 4))) (leb (opened_of now.conn (id % 4)) (id / 4)) e in
-          (ltb-true (id % 4) 3 (not-false _ w.0), omega (arith, leb-false (opened_of now.conn (id % 4)) (id / 4) w.1, facts.conn.count_top (id % 4), facts.conn.opened_in (id % 4)))
+          (ltb-true (id % 4) 3 (not-false _ w.0), omega (arith, leb-false (opened_of now.conn (id % 4)) (id / 4) w.1, facts.conn.count_top (id % 4), facts.conn.opened_in_law (id % 4)))
 
       go : (b : Bool) → unserved (opened_of now.conn (id % 4)) ≡ b
           → (unserved (opened_of now.conn (id % 4)) ⇒ NotServed ∣ is_known (final_of (entry_of now.table id).size) ⇒ SizeKnown ∣ raise_of (entry_of now.table id).credit new most_credit)
