@@ -9,7 +9,7 @@ use answers::Answer;
 use invariants::{Bytes, Invariant, Part};
 
 // The seven kinds of packet that can be told apart before protection is removed.
-#[derive(Drop)]
+#[derive(Clone, Copy)]
 pub enum Kind {
     Initial,
     ZeroRtt,
@@ -22,7 +22,7 @@ pub enum Kind {
 
 // A packet's header. Places count from the start of the rest that was handed in; `number` is the place of the
 // packet number, or of what follows the IDs where there is none, and `end` the place after the packet.
-#[derive(Drop)]
+#[derive(Clone, Copy)]
 pub struct Header {
     pub kind: Kind,
     pub version: u64,
@@ -34,7 +34,7 @@ pub struct Header {
 }
 
 // The next packet of a datagram, or why there is none: the rest is empty, or it begins with no packet of these forms.
-#[derive(Drop)]
+#[derive(Clone, Copy)]
 pub enum Next {
     Packet { header: Header },
     Stop { answer: Answer },

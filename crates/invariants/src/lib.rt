@@ -9,21 +9,21 @@ ghost use Rattle.invariants.specs.Invariant.{bytes_after, invariant_of};
 use wire::Number;
 
 // A part of the rest: its place and its length. One that is not there is empty, at the place where it would stand.
-#[derive(Drop)]
+#[derive(Clone, Copy)]
 pub struct Part {
     pub at: usize,
     pub len: usize,
 }
 
 // As many bytes as a number before them says, or an end of the rest before theirs.
-#[derive(Drop)]
+#[derive(Clone, Copy)]
 pub enum Bytes {
     Are { part: Part },
     CutShort,
 }
 
 // What every version has after a long header's first byte: the version and both IDs.
-#[derive(Drop)]
+#[derive(Clone, Copy)]
 pub enum Invariant {
     Is {
         version: u64,

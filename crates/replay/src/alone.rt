@@ -40,7 +40,7 @@ fn header(out: &mut [u8; 16384], at: usize, s: &[u8], h: Header) -> usize {
 }
 
 // How long the answer is after a packet, and the place after that packet.
-#[derive(Drop)]
+#[derive(Clone, Copy)]
 struct Told {
     len: usize,
     next: usize,

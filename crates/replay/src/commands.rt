@@ -12,7 +12,7 @@ use text::decimal::Parsed;
 
 // A command, whose bytes, if it has any, stand beside it: `count` says how many. For a line that is none, `word` is the
 // place of the first word that cannot stand there: 0, the name's own, if no command of that name has so many words.
-#[derive(Drop)]
+#[derive(Clone, Copy)]
 pub enum Command {
     Blank,
     What {
@@ -36,7 +36,7 @@ pub enum Command {
 }
 
 // The commands that need no connection.
-#[derive(Drop)]
+#[derive(Clone, Copy)]
 pub enum Alone {
     Split {
         count: usize,
@@ -57,7 +57,7 @@ pub enum Alone {
 }
 
 // The commands that need one.
-#[derive(Drop)]
+#[derive(Clone, Copy)]
 pub enum Within {
     Packet {
         first: u8,
@@ -88,19 +88,19 @@ pub enum Within {
 }
 
 // A word that names one of few things, or none of them.
-#[derive(Drop)]
+#[derive(Clone, Copy)]
 pub enum SpaceWord {
     Is { space: Space },
     Wrong,
 }
 
-#[derive(Drop)]
+#[derive(Clone, Copy)]
 enum KindWord {
     Is { kind: Kind },
     Wrong,
 }
 
-#[derive(Drop)]
+#[derive(Clone, Copy)]
 enum SizeWord {
     Is { size: Size },
     Wrong,

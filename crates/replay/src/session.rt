@@ -7,7 +7,7 @@ use records::Record;
 use spaces::Records;
 use streams::Conn;
 
-#[derive(Drop)]
+#[derive(Clone, Copy)]
 pub struct Session {
     pub opened: bool,
     pub conn: Conn,
@@ -16,7 +16,7 @@ pub struct Session {
 }
 
 // What a call leaves: the session, and how long its answer in the output is.
-#[derive(Drop)]
+#[derive(Clone, Copy)]
 pub struct Ran {
     pub session: Session,
     pub len: usize,

@@ -9,7 +9,7 @@ use streams::Conn;
 use text::decimal::Parsed;
 
 // What is changed; or, as for a command, the place of the first word that cannot stand there.
-#[derive(Drop)]
+#[derive(Clone, Copy)]
 pub enum Spoil {
     Wrong { word: usize },
     Total { new: u64 },
