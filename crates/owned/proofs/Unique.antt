@@ -1,15 +1,20 @@
--- The contract of every public function is firm: it asks nothing and is an equation of what is handed back, the table with it.
+-- The contract of every public function is firm: it asks nothing and is an equation of the answer, the table with it.
 -- Assumes nothing.
 use mathlib.Core.Path.{refl}
-use Rattle.answers.specs.Firm.{Firm}
-use Rattle.answers.proofs.Firm.{equation}
-use Rattle.owned.proofs.open.Kinds as opening
-use Rattle.owned.proofs.open.Reads as opening_reads
-use Rattle.owned.proofs.take_frame.Kinds as take_frame
-use Rattle.owned.proofs.take_frame.Reads as take_frame_reads
+use seplogic.Ra.Ura.{Ura}
+use base.Logic.{SProp}
+use contract.Monad.{Fun}
+use types.Logic.{Logic}
+use prog.Memory.{Memory}
+use prog.Routine.{Routine}
+use Rattle.answers.specs.Firm.{FirmClauses}
+use Rattle.answers.proofs.Firm.{clauses_equation}
+use Rattle.owned.specs.contracts.open as opening
+use Rattle.owned.specs.contracts.take_frame as take_frame
 
-pub open_firm : Firm 0 opening.ps opening.r opening_reads.Asked opening_reads.Post
-open_firm = equation refl
+module _ {M : Type 1} {𝓤 : Ura M} (𝓛 : Logic 𝓤) (mem : Memory → SProp 𝓤) (run : Routine → Fun 𝓤) where
+  pub open_firm : FirmClauses 𝓤 opening.ended (opening.clauses 𝓛 mem run)
+  open_firm = clauses_equation refl
 
-pub take_frame_firm : Firm 1 take_frame.ps take_frame.r take_frame_reads.Asked take_frame_reads.Post
-take_frame_firm = equation refl
+  pub take_frame_firm : FirmClauses 𝓤 take_frame.ended (take_frame.clauses 𝓛 mem run)
+  take_frame_firm = clauses_equation refl

@@ -1,10 +1,16 @@
--- The contract of `take_packet` is firm: it asks nothing, and is an equation of the answer and of the whole table at exit.
+-- The contract of every public function is firm: it asks nothing, and is an equation of the answer and, where the table is lent, of the whole table at exit.
 -- Assumes nothing.
 use mathlib.Core.Path.{refl}
-use Rattle.answers.specs.Firm.{Firm}
-use Rattle.answers.proofs.Firm.{outcome_equations}
-use Rattle.receive.proofs.take_packet.Kinds as take_packet
-use Rattle.receive.proofs.take_packet.Reads as take_packet_reads
+use seplogic.Ra.Ura.{Ura}
+use base.Logic.{SProp}
+use contract.Monad.{Fun}
+use types.Logic.{Logic}
+use prog.Memory.{Memory}
+use prog.Routine.{Routine}
+use Rattle.answers.specs.Firm.{FirmClauses}
+use Rattle.answers.proofs.Firm.{clauses_equations}
+use Rattle.receive.specs.contracts.take_packet as take_packet
 
-pub take_packet_firm : Firm 2 take_packet.ps take_packet.r take_packet_reads.Asked take_packet_reads.Post
-take_packet_firm = outcome_equations (λ κs a w. (tt, (tt, (w, (tt, (tt, tt)))))) refl
+module _ {M : Type 1} {𝓤 : Ura M} (𝓛 : Logic 𝓤) (mem : Memory → SProp 𝓤) (run : Routine → Fun 𝓤) where
+  pub take_packet_firm : FirmClauses 𝓤 take_packet.ended (take_packet.clauses 𝓛 mem run)
+  take_packet_firm = clauses_equations (λ κs a w. (tt, (tt, (w, (tt, (tt, tt)))))) refl

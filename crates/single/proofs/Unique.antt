@@ -1,15 +1,20 @@
 -- The contract of every public function is firm: it asks nothing, and is an equation of the answer and, where the table is lent, of the whole table at exit.
 -- Assumes nothing.
 use mathlib.Core.Path.{refl}
-use Rattle.answers.specs.Firm.{Firm}
-use Rattle.answers.proofs.Firm.{outcome_equations}
-use Rattle.single.proofs.step.Kinds as stepping
-use Rattle.single.proofs.step.Reads as stepping_reads
-use Rattle.single.proofs.take_frame.Kinds as take_frame
-use Rattle.single.proofs.take_frame.Reads as take_frame_reads
+use seplogic.Ra.Ura.{Ura}
+use base.Logic.{SProp}
+use contract.Monad.{Fun}
+use types.Logic.{Logic}
+use prog.Memory.{Memory}
+use prog.Routine.{Routine}
+use Rattle.answers.specs.Firm.{FirmClauses}
+use Rattle.answers.proofs.Firm.{clauses_equations}
+use Rattle.single.specs.contracts.step as stepping
+use Rattle.single.specs.contracts.take_frame as take_frame
 
-pub step_firm : Firm 2 stepping.ps stepping.r stepping_reads.Asked stepping_reads.Post
-step_firm = outcome_equations (λ κs a w. (tt, (w, (tt, (tt, (tt, tt)))))) refl
+module _ {M : Type 1} {𝓤 : Ura M} (𝓛 : Logic 𝓤) (mem : Memory → SProp 𝓤) (run : Routine → Fun 𝓤) where
+  pub step_firm : FirmClauses 𝓤 stepping.ended (stepping.clauses 𝓛 mem run)
+  step_firm = clauses_equations (λ κs a w. (tt, (w, (tt, (tt, (tt, tt)))))) refl
 
-pub take_frame_firm : Firm 2 take_frame.ps take_frame.r take_frame_reads.Asked take_frame_reads.Post
-take_frame_firm = outcome_equations (λ κs a w. (tt, (w, (tt, (tt, (tt, tt)))))) refl
+  pub take_frame_firm : FirmClauses 𝓤 take_frame.ended (take_frame.clauses 𝓛 mem run)
+  take_frame_firm = clauses_equations (λ κs a w. (tt, (w, (tt, (tt, (tt, tt)))))) refl

@@ -1,10 +1,16 @@
--- The contract of every public function is firm: it asks nothing, and is an equation of the answer and of the whole table at exit.
+-- The contract of every public function is firm: it asks nothing, and is an equation of the answer and, where the table is lent, of the whole table at exit.
 -- Assumes nothing.
 use mathlib.Core.Path.{refl}
-use Rattle.answers.specs.Firm.{Firm}
-use Rattle.answers.proofs.Firm.{outcome_equations}
-use Rattle.walks.proofs.walk.Kinds as walk
-use Rattle.walks.proofs.walk.Reads as walk_reads
+use seplogic.Ra.Ura.{Ura}
+use base.Logic.{SProp}
+use contract.Monad.{Fun}
+use types.Logic.{Logic}
+use prog.Memory.{Memory}
+use prog.Routine.{Routine}
+use Rattle.answers.specs.Firm.{FirmClauses}
+use Rattle.answers.proofs.Firm.{clauses_equations}
+use Rattle.walks.specs.contracts.walk as walking
 
-pub walk_firm : Firm 2 walk.ps walk.r walk_reads.Asked walk_reads.Post
-walk_firm = outcome_equations (λ κs a w. (tt, (w, (tt, (tt, (tt, tt)))))) refl
+module _ {M : Type 1} {𝓤 : Ura M} (𝓛 : Logic 𝓤) (mem : Memory → SProp 𝓤) (run : Routine → Fun 𝓤) where
+  pub walk_firm : FirmClauses 𝓤 walking.ended (walking.clauses 𝓛 mem run)
+  walk_firm = clauses_equations (λ κs a w. (tt, (w, (tt, (tt, (tt, tt)))))) refl
