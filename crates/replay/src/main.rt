@@ -81,7 +81,20 @@ fn some(
     feed(rt, err, session, row, line, number, &chunk[..n])
 }
 
-// The turns are more than there can be reads: the loop ends with the input. The last line may lack its newline.
+// Runs the last line, which may lack its newline.
+fn last(
+    to: &impl Print,
+    err: &impl Print,
+    session: Session,
+    row: &[u8; 4096],
+    line: Line,
+    number: u64,
+) -> io::Result<()> {
+    turns::ended(to, err, session, row, line, number)?;
+    Ok(())
+}
+
+// The turns are more than there can be reads: the loop ends with the input.
 fn main(rt: HostRuntime) -> io::Result<()> {
     let err = rt.stderr();
     let mut now = session::empty();
@@ -98,6 +111,5 @@ fn main(rt: HostRuntime) -> io::Result<()> {
             break;
         }
     }
-    turns::ended(&rt, &err, now, &row, line, number)?;
-    Ok(())
+    last(&rt, &err, now, &row, line, number)
 }

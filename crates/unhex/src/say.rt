@@ -28,6 +28,11 @@ pub fn bytes(to: &impl Print, out: &[u8; 4096], len: usize) -> io::Result<bool> 
     first(to, out, len)
 }
 
+fn send(err: &impl Print, line: &[u8; 64], len: usize) -> io::Result<()> {
+    first(err, line, len)?;
+    Ok(())
+}
+
 // The place after what was written. The line has room for all that is said, so that nothing is left off.
 fn after(w: Wrote, at: usize) -> usize {
     match w {
@@ -58,6 +63,5 @@ pub fn wrong(err: &impl Print, place: u64, half: u8) -> io::Result<()> {
     let mut at = text(&mut line, 0, b"place ");
     at = number(&mut line, at, place);
     at = fault(&mut line, at, half);
-    first(err, &line, at)?;
-    Ok(())
+    send(err, &line, at)
 }
