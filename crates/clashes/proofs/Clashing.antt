@@ -2,7 +2,7 @@
 -- Assumes nothing.
 use Prim.Native.Nat.{ℕ, ◌+◌, ◌-◌, ◌%◌, ◌≤◌, ◌<◌, max, min}
 use mathlib.Core.Path.{◌≡◌, refl, sym, ◌∙◌, ap}
-use mathlib.Core.Bool.{Bool, true, false, not, ◌&&◌}
+use mathlib.Core.Bool.{Bool, true, false, ◌&&◌}
 use mathlib.Core.List.{List}
 use native.Mathlib.Omega.{arith}
 use native.Mathlib.Decide.{dec_le, ℕ_discrete}
@@ -15,7 +15,7 @@ use Rattle.places.proofs.Slots.{mark_lt}
 use Rattle.places.proofs.Bounds.{in_bounds, below_bounds, above_bounds, bit_mark}
 use Rattle.seams.specs.Parts.{SameAt}
 use Rattle.seams.proofs.Compared.{some_none, none_some}
-use Rattle.clashes.specs.Held.{Held, nothing, byte, held_at, contradicts, clash_of, room_for, clashes_in}
+use Rattle.clashes.specs.Held.{nothing, byte, held_at, contradicts, clash_of, room_for, clashes_in}
 use Rattle.clashes.specs.Parts.{Room}
 use Rattle.clashes.proofs.Fitting.{room_true}
 

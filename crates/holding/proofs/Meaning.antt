@@ -1,7 +1,7 @@
 -- What the contracts of `offer` and `hand` mean for what is held, place by place: an offer that holds adds the frame's bytes and changes no byte that is held,
 -- a refusal leaves everything, and a read hands over the held bytes up to the first place where none is.
 -- Assumes nothing.
-use Prim.Native.Nat.{ℕ, ◌+◌, ◌-◌, ◌%◌, ◌≤◌, ◌<◌, max}
+use Prim.Native.Nat.{ℕ, ◌+◌, ◌-◌, ◌<◌, max}
 use mathlib.Core.Path.{◌≡◌, refl, sym, ◌∙◌, ap}
 use mathlib.Core.Bool.{Bool, true, false, not, ◌&&◌, false≢true}
 use mathlib.Core.List.{List}
@@ -14,7 +14,7 @@ use Rattle.places.proofs.Places.{marks_whole}
 use Rattle.seams.specs.Seam.{read_of}
 use Rattle.seams.proofs.Stored.{bytes_long}
 use Rattle.seams.proofs.Taking.{read_at}
-use Rattle.clashes.specs.Held.{Held, nothing, byte, held_at, clash_of, room_for}
+use Rattle.clashes.specs.Held.{nothing, byte, held_at, clash_of, room_for}
 use Rattle.clashes.specs.Parts.{Room}
 use Rattle.clashes.proofs.Fitting.{room_told}
 use Rattle.keeping.specs.After.{ring_after, marks_after}

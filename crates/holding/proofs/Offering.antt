@@ -1,8 +1,8 @@
 -- What a frame is answered and leaves, case by case: one that does not fit, one that contradicts a byte that is held, and one that is kept.
 -- Assumes nothing.
 use Prim.Native.Nat.{ℕ, ◌+◌, max}
-use mathlib.Core.Path.{◌≡◌, refl, sym, ◌∙◌, ap}
-use mathlib.Core.Bool.{Bool, true, false, not, ◌&&◌}
+use mathlib.Core.Path.{◌≡◌, sym, ◌∙◌, ap}
+use mathlib.Core.Bool.{Bool, true, false}
 use mathlib.Core.List.{List}
 use Rattle.answers.specs.Choice.{◌⇒◌∣◌}
 use Rattle.holding.specs.declared.Offered.{Offered}

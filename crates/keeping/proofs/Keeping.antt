@@ -1,8 +1,8 @@
 -- The one content that a kept frame leaves: the ring and the marks, from what storing and painting leave.
 -- Assumes nothing.
 use Prim.Native.Nat.{ℕ, ◌+◌, ◌-◌, ◌%◌, ◌^◌, ◌≤◌, ◌<◌, max}
-use mathlib.Core.Path.{◌≡◌, refl, sym, ◌∙◌, ap}
-use mathlib.Core.Bool.{Bool, true, false}
+use mathlib.Core.Path.{◌≡◌, sym, ◌∙◌, ap}
+use mathlib.Core.Bool.{true, false}
 use mathlib.Core.List.{List}
 use native.Mathlib.Omega.{arith}
 use native.Mathlib.Decide.{dec_le}
@@ -15,7 +15,7 @@ use Rattle.places.proofs.Slots.{same_place}
 use Rattle.places.proofs.Bounds.{in_bounds, below_bounds, above_bounds, mark_bit}
 use Rattle.places.proofs.Places.{marks_is, marks_of_law, painted_whole, painted_marked}
 use Rattle.seams.specs.Seam.{stored_of}
-use Rattle.seams.specs.Parts.{Fit, Stored}
+use Rattle.seams.specs.Parts.{Stored}
 use Rattle.seams.proofs.Stored.{bytes_at, bytes_are, stored_told}
 use Rattle.clashes.specs.Held.{room_for}
 use Rattle.keeping.specs.After.{ring_after, mark_after, marks_after}

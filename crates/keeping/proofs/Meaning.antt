@@ -2,7 +2,7 @@
 -- Assumes nothing.
 use Prim.Native.Nat.{ℕ, ◌+◌, ◌-◌, ◌%◌, ◌≤◌, ◌<◌, max}
 use mathlib.Core.Path.{◌≡◌, refl, sym, ◌∙◌, ap}
-use mathlib.Core.Bool.{Bool, true, false, ◌&&◌}
+use mathlib.Core.Bool.{Bool, true, false}
 use mathlib.Core.List.{List}
 use native.Mathlib.Omega.{arith}
 use native.Mathlib.Decide.{dec_le}
@@ -14,7 +14,7 @@ use Rattle.places.specs.Places.{marked, run_of, within}
 use Rattle.places.proofs.Bounds.{in_bounds, below_bounds, above_bounds, bounds}
 use Rattle.places.proofs.Running.{run_longest}
 use Rattle.seams.proofs.Compared.{none_some}
-use Rattle.clashes.specs.Held.{Held, nothing, byte, held_at, contradicts, clash_of}
+use Rattle.clashes.specs.Held.{nothing, byte, held_at, contradicts, clash_of}
 use Rattle.clashes.proofs.Clashing.{held_below, held_above}
 use Rattle.keeping.specs.After.{ring_after, mark_after, marks_after}
 use Rattle.keeping.proofs.Keeping.{ring_after_law, marks_after_law, mark_in, mark_gap, mark_low, mark_high}

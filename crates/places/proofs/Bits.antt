@@ -8,7 +8,7 @@ use native.Mathlib.Decide.{dec_le}
 use native.Mathlib.Nat.{mod-lt, lt_of_le_of_lt}
 use lib.Pow.{pow_pos, shr_le}
 use lib.Count.{count_trailing_zeros, under, trailing_le}
-use Rattle.ring.specs.Bits.{as_bit, bit}
+use Rattle.ring.specs.Bits.{bit}
 use Rattle.ring.specs.Parts.{Without}
 use Rattle.ring.proofs.Bits.{bit_lt, bit_shift, bit_past}
 use Rattle.ring.proofs.Leading.{bit_not}

@@ -1,8 +1,8 @@
 -- Up to where marks go on alike: the definition and the facts that the code finds say the same.
 -- Assumes nothing.
-use Prim.Native.Nat.{ℕ, ◌+◌, ◌-◌, ◌≤◌, ◌<◌}
-use mathlib.Core.Path.{◌≡◌, refl, sym, ◌∙◌, ap}
-use mathlib.Core.Bool.{Bool, true, false, true≢false}
+use Prim.Native.Nat.{ℕ, ◌+◌, ◌-◌, ◌≤◌}
+use mathlib.Core.Path.{◌≡◌, ◌∙◌, ap}
+use mathlib.Core.Bool.{Bool, true, false}
 use mathlib.Core.List.{List}
 use native.Mathlib.Omega.{arith}
 use native.Mathlib.Decide.{ℕ_discrete}
@@ -10,8 +10,7 @@ use lib.ListN.{length}
 use lib.Dec.{eqb}
 use borrow.Author.Tests.{eq-eqb, ne_eqb, eqb-true, eqb-false}
 use Rattle.answers.specs.Choice.{◌⇒◌∣◌}
-use Rattle.ring.specs.Bits.{as_bit}
-use Rattle.places.specs.Places.{mark_at, marked, alike, run_of, up_of}
+use Rattle.places.specs.Places.{marked, alike, run_of, up_of}
 use Rattle.places.specs.Parts.{Up}
 use Rattle.places.proofs.Running.{run_is, run_longest}
 

@@ -1,14 +1,12 @@
 -- Whether the stores fit, as a test and as facts; and what the calls on the parts that are lent tell of all stores.
 -- Assumes nothing.
-use Prim.Native.Nat.{ℕ, ◌+◌, ◌-◌, ◌*◌, ◌≤◌, ◌<◌}
-use mathlib.Core.Path.{◌≡◌, refl, sym, ◌∙◌, ap, ap₂}
-use mathlib.Core.Bool.{Bool, true, false, ◌&&◌, and-eq-true_iff}
+use Prim.Native.Nat.{ℕ, ◌<◌}
+use mathlib.Core.Path.{◌≡◌, refl, ◌∙◌, ap, ap₂}
+use mathlib.Core.Bool.{Bool, true, false, and-eq-true_iff}
 use mathlib.Core.List.{List}
-use native.Mathlib.Omega.{arith}
 use lib.ListN.{length}
 use lib.Dec.{ltb, eqb}
 use borrow.Author.Tests.{lt-ltb, eq-eqb, ltb-true, eqb-true}
-use Rattle.answers.specs.Choice.{◌⇒◌∣◌}
 use Rattle.holding.specs.declared.Offered.{Offered}
 use Rattle.holding.specs.declared.Offered.TheVariants.{Outside}
 use Rattle.holding.specs.declared.Handed.{Handed}

@@ -1,21 +1,20 @@
 -- Each stream for itself: after an offer its own part is that of one stream, every other part and what is held there are as they were, and a refusal leaves everything.
 -- Assumes nothing.
 use Prim.Native.Nat.{ℕ, ◌+◌, ◌-◌, ◌*◌, ◌≤◌, ◌<◌, max}
-use mathlib.Core.Path.{◌≡◌, refl, sym, ◌∙◌, ap, ap₂}
+use mathlib.Core.Path.{◌≡◌, refl, ◌∙◌, ap, ap₂}
 use mathlib.Core.Bool.{Bool, true, false, false≢true}
 use mathlib.Core.List.{List}
 use native.Mathlib.Omega.{arith}
 use lib.ListN.{length, get_or}
 use Rattle.answers.specs.Choice.{◌⇒◌∣◌}
 use Rattle.places.specs.Places.{within}
-use Rattle.clashes.specs.Held.{Held, byte, held_at}
-use Rattle.holding.specs.declared.Offered.{Offered}
-use Rattle.holding.specs.declared.Offered.TheVariants.{Outside, Contradicts, Holds}
+use Rattle.clashes.specs.Held.{byte, held_at}
+use Rattle.holding.specs.declared.Offered.TheVariants.{Outside, Holds}
 use Rattle.holding.specs.Kept.{offered_of, ring_kept, marks_kept}
 use Rattle.holding.proofs.Meaning.{is_holds, refused_leaves, ring_long, marks_long, held_after}
 use Rattle.stores.specs.Stores.{part_of, with_part, stores_fit, offered_in, rings_kept, marks_kept_in}
 use Rattle.stores.proofs.Parts.{part_long, with_long, own_part, other_part, same_part}
-use Rattle.stores.proofs.Stores.{Fit, fit_told}
+use Rattle.stores.proofs.Stores.{fit_told}
 
 module _ (rings marks : List ℕ) (place read held : ℕ) (s : List ℕ) (from len offset : ℕ) where
   abbrev ring_part : List ℕ
