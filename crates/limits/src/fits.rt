@@ -47,6 +47,7 @@ pub fn one_more(
 }
 
 // After the last entry: the total is the sum, and the connection's own numbers fit.
+#[tactic(auto, using(crate::proofs::Concluded::not_total))]
 pub fn conclude(c: Conn, summed: Summed) -> bool
     ensures { result ≡ concluded_of c summed }
 {

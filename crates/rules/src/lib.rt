@@ -123,6 +123,7 @@ pub fn blocked(c: Conn, id: u64) -> Answer
 }
 
 // The answer to STOP_SENDING and MAX_STREAM_DATA.
+#[tactic(auto, using(crate::proofs::Sender::never_ours))]
 pub fn for_sender(c: Conn, id: u64) -> Answer
     ensures { result ≡ Rules.for_sender_of c id }
 {

@@ -3,17 +3,14 @@ use native.Mathlib.Omega.{arith}
 use mathlib.Core.Path.{sym, ap, ◌∙◌}
 use Rattle.halves.specs.Stream.{peers}
 use Rattle.halves.specs.declared.Stream.{Stream}
-use Rattle.rules.proofs.Sender.{never_ours, above_count, not_opened, passes}
+use Rattle.rules.proofs.Sender.{above_count, not_opened, passes}
 use Rattle.rules.proofs.for_sender.Goals as goal
 
-pub returns-then-s-eq2 : goal.returns-then-s-eq2
-returns-then-s-eq2 c = never_ours _ _ (sym (ap (λ (s : Stream). s.half) c.named-s.ensures) ∙ c.if-s-eq2.true)
-
 pub returns-then-is_peers : goal.returns-then-is_peers
-returns-then-is_peers c = above_count _ _ (λ e. c.if-s-eq2.false (ap (λ (s : Stream). s.half) c.named-s.ensures ∙ e)) (omega (arith, ap (λ (s : Stream). s.ordinal) c.named-s.ensures, c.count_of.ensures)) (ap (λ (s : Stream). peers s.half) (sym c.named-s.ensures) ∙ sym c.is_peers.ensures ∙ c.if-is_peers.true)
+returns-then-is_peers c = above_count _ _ (λ e. omega (arith, ap (λ (s : Stream). s.half) c.named-s.ensures, e)) (omega (arith, ap (λ (s : Stream). s.ordinal) c.named-s.ensures, c.count_of.ensures)) (ap (λ (s : Stream). peers s.half) (sym c.named-s.ensures) ∙ sym c.is_peers.ensures ∙ c.if-is_peers.true)
 
 pub returns-then-count_of-s : goal.returns-then-count_of-s
-returns-then-count_of-s c = not_opened _ _ (λ e. c.if-s-eq2.false (ap (λ (s : Stream). s.half) c.named-s.ensures ∙ e)) (omega (arith, ap (λ (s : Stream). s.ordinal) c.named-s.ensures, c.count_of.ensures)) (ap (λ (s : Stream). peers s.half) (sym c.named-s.ensures) ∙ sym c.is_peers.ensures ∙ c.if-is_peers.false)
+returns-then-count_of-s c = not_opened _ _ (λ e. omega (arith, ap (λ (s : Stream). s.half) c.named-s.ensures, e)) (omega (arith, ap (λ (s : Stream). s.ordinal) c.named-s.ensures, c.count_of.ensures)) (ap (λ (s : Stream). peers s.half) (sym c.named-s.ensures) ∙ sym c.is_peers.ensures ∙ c.if-is_peers.false)
 
 pub returns : goal.returns
-returns c = passes _ _ (λ e. c.if-s-eq2.false (ap (λ (s : Stream). s.half) c.named-s.ensures ∙ e)) (omega (arith, ap (λ (s : Stream). s.ordinal) c.named-s.ensures, c.count_of.ensures))
+returns c = passes _ _ (λ e. omega (arith, ap (λ (s : Stream). s.half) c.named-s.ensures, e)) (omega (arith, ap (λ (s : Stream). s.ordinal) c.named-s.ensures, c.count_of.ensures))

@@ -1,7 +1,7 @@
 -- `limits::fits::conclude` meets its contract: what did not fit is told first, then the total, then the connection's own numbers, in the order of the definition.
 use mathlib.Core.Path.{◌∙◌}
 use native.Mathlib.Omega.{arith}
-use borrow.Author.Tests.{eq-eqb, ne_eqb}
+use borrow.Author.Tests.{eq-eqb}
 use Rattle.limits.specs.Fits.{concluded_of}
 use Rattle.limits.proofs.fits.conclude.Goals as goal
 
@@ -9,10 +9,6 @@ pub returns-in_default : goal.returns-in_default
 unfolding concluded_of
 returns-in_default c = rw c.in_default.is
 
-pub returns-then-c-sum : goal.returns-then-c-sum
-unfolding concluded_of
-returns-then-c-sum c = rw (c.in-To.is, ne_eqb c.args.c.total c.in-To.sum (omega (arith, c.if-c-sum.true)))
-
 pub returns : goal.returns
 unfolding concluded_of
-returns c = c.conn_fits.ensures ∙ rw (c.in-To.is, eq-eqb c.args.c.total c.in-To.sum (omega (arith, c.if-c-sum.false)))
+returns c = c.conn_fits.ensures ∙ rw (c.in-To.is, eq-eqb c.args.c.total c.in-To.sum (omega arith))
