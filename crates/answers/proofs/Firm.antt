@@ -43,16 +43,6 @@ module _ {n : ℕ} {ps : List (ParamKind n)} {r : ResultKind n} where
     one_outcome = λ κs a x y ws vs p q i. let o = p ∙ sym q in ((o i).0, ((λ j. sym e j κs a ws) ∙ ap (λ o. all κs a o.1) o ∙ (λ j. e j κs a vs)) i);
   }
 
-  -- or two: of the answer, and of what is left
-  pub outcome_equations : {L : Lfts n → Type 0} {left : (κs : Lfts n) → AtExit (ended_of n ps r) κs → L κs}
-      {value : (κs : Lfts n) → Dens κs ps → (res_t r κs).Denot} {after : (κs : Lfts n) → Dens κs ps → L κs}
-      (all : Made (ended_of n ps r) left) → MadeUp (ended_of n ps r) left all
-      → Firm n ps r (λ κs a. Unit) (λ κs a x s. (x ≡ value κs a) × (left κs s ≡ after κs a))
-  outcome_equations all e = record {
-    asks_nothing = λ κs a. tt;
-    one_outcome = λ κs a x y ws vs p q i. ((p.0 ∙ sym q.0) i, ((λ j. sym e j κs a ws) ∙ ap (all κs a) (p.1 ∙ sym q.1) ∙ (λ j. e j κs a vs)) i);
-  }
-
 -- the contract says what the elements of the part are that is handed back
 module _ {n : ℕ} {ps : List (ParamKind n)} {R : RattleType} {j : ℕ} {within : Within n j} where
   pub part_equation : {value : (κs : Lfts n) → Dens κs ps → List R.Denot} → NothingLeft (ended_of n ps (r_shr_s R j within)) → FirmPart n ps R j within (λ κs a. Unit) (λ κs a x s. x.now ≡ value κs a)
