@@ -89,9 +89,9 @@ module _ (s : State) (f : Fits s.conn s.table) where
   share : ℕ → ℕ
   share id = may_send s.conn id ⇒ credit_of s id ∣ 0
 
-  share-of : (id : ℕ) → id % 4 < 3 → id / 4 < count_of s.conn (id % 4) → share id ≡ (entry_of s.table id).credit
+  share_of : (id : ℕ) → id % 4 < 3 → id / 4 < count_of s.conn (id % 4) → share id ≡ (entry_of s.table id).credit
   unfolding share
-  share-of id a b = rw (may_send_law s.conn id a b) (credit_is s id (a, omega (arith, f.conn.count_top (id % 4))))
+  share_of id a b = rw (may_send_law s.conn id a b) (credit_is s id (a, omega (arith, f.conn.count_top (id % 4))))
 
   end_share : (id : ℕ) → id < 256 → end_at s.table id ≤ share id
   unfolding end_at
@@ -101,7 +101,7 @@ module _ (s : State) (f : Fits s.conn s.table) where
       go (yes p) d = rw (eq-eqb _ _ p) (omega arith)
       go (no p) (no q) =
           let i = place_is id (omega arith, omega arith) in
-          rw (ne_eqb _ _ p, share-of id (omega arith) (omega arith)) (f.each (place_of id) (omega arith)).within
+          rw (ne_eqb _ _ p, share_of id (omega arith) (omega arith)) (f.each (place_of id) (omega arith)).within
       go (no p) (yes q) =
           let i = place_is id (omega arith, omega arith) in
           let e : place_of id / 64 ≡ id % 4 = omega arith in
@@ -115,7 +115,7 @@ module _ (s : State) (f : Fits s.conn s.table) where
   room id end a b l enough =
       let top = f.conn.count_top (id % 4) in
       let e0 : end_at s.table id ≡ (entry_of s.table id).end = simp (ne_eqb (id % 4) 3 (omega arith)) in
-      let s0 : share id ≡ (entry_of s.table id).credit = share-of id a b in
+      let s0 : share id ≡ (entry_of s.table id).credit = share_of id a b in
       let g0 : grown id ≡ max (entry_of s.table id).end end = simp (eq-eqb id id refl) in
       let p : sum_to 256 grown + end_at s.table id ≡ sum_to 256 (end_at s.table) + grown id = sum_at 256 id grown (end_at s.table) (omega arith) (λ i m x. other i x) in
       let q : sum_to 256 grown ≤ sum_to 256 share = sum_le 256 grown share (λ i m. below i m (ℕ_discrete i id)) in
@@ -131,7 +131,7 @@ module _ (s : State) (f : Fits s.conn s.table) where
       below i m (yes x) =
           let h : Has id = (a, omega (arith, f.conn.count_top (id % 4))) in
           let w = (f.each (place_of id) (omega (arith, place_is id h))).within in
-          subst (λ (y : ℕ). grown y ≤ share y) (sym x) (rw (eq-eqb id id refl) (omega (arith, share-of id a b)))
+          subst (λ (y : ℕ). grown y ≤ share y) (sym x) (rw (eq-eqb id id refl) (omega (arith, share_of id a b)))
       below i m (no x) = omega (arith, other i x, end_share i m)
 
 -- ---- the verdict

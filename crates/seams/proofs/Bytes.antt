@@ -10,8 +10,8 @@ use lib.Bits.{bit_or, bit_xor, or_add_and, xor_add_and, and_le_l, and_le_r, xor_
 use lib.Seq.{get_or-set_same, get_or-set_other}
 use Rattle.seams.specs.Parts.{Copied, Stored, Same, SameAt}
 
-pub copy-none : (o s : List ℕ) (i j : ℕ) → Copied o i s j 0 o
-copy-none o s i j = record { long = refl; inside = λ k h. absurd (omega arith); rest = λ x f. refl }
+pub copy_none : (o s : List ℕ) (i j : ℕ) → Copied o i s j 0 o
+copy_none o s i j = record { long = refl; inside = λ k h. absurd (omega arith); rest = λ x f. refl }
 
 pub copy_more : (o t s : List ℕ) (i j n : ℕ) → i + n < length o → Copied o i s j n t → Copied o i s j (n + 1) (set t (i + n) (get_or s (j + n) 0))
 copy_more o t s i j n h c = record {

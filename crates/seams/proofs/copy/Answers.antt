@@ -3,11 +3,11 @@ use native.Mathlib.Omega.{arith}
 use mathlib.Core.Path.{◌≡◌, subst}
 use Prim.Native.Nat.{ℕ}
 use Rattle.seams.specs.Parts.{Copied}
-use Rattle.seams.proofs.Bytes.{copy-none, copy_more}
+use Rattle.seams.proofs.Bytes.{copy_none, copy_more}
 use Rattle.seams.proofs.copy.Goals as goal
 
 pub loop-k-init : goal.loop-k-init
-loop-k-init c = (omega arith, copy-none _ _ _ _)
+loop-k-init c = (omega arith, copy_none _ _ _ _)
 
 pub bounds-out-i : goal.bounds-out-i
 bounds-out-i c = omega (arith, c.loop-k.invariant.1.long)
