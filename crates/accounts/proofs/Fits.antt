@@ -4,7 +4,7 @@ use Prim.Native.Nat.{ℕ, zero, suc, ◌+◌, ◌-◌, ◌/◌, ◌%◌, ◌^◌
 use mathlib.Core.Path.{◌≡◌, refl, sym, ◌∙◌, ap, subst}
 use mathlib.Core.Bool.{true, ◌&&◌, ◌||◌, not, and-eq-true_iff}
 use mathlib.Core.List.{List}
-use mathlib.Core.Logic.{◌⊎◌, ⊎_elim}
+use mathlib.Core.Logic.{⊎_elim}
 use native.Mathlib.Omega.{arith}
 use native.Mathlib.Decide.{ℕ_discrete, dec_le}
 use lib.ListN.{get_or, set, length, length-set, get_or-eq_default}
@@ -13,8 +13,6 @@ use lib.Dec.{ltb, leb, eqb}
 use borrow.Author.Tests.{lt-ltb, le-ltb, le-leb, eq-eqb, ne_eqb, ltb-true, leb-true, eqb-true}
 use Rattle.streams.specs.declared.Conn.{Conn}
 use Rattle.entries.specs.declared.Entry.{Entry}
-use Rattle.entries.specs.declared.Final.{Final}
-use Rattle.entries.specs.declared.Final.TheVariants.{Unknown, Known}
 use Rattle.halves.specs.Stream.{most_streams}
 use Rattle.entries.specs.Entry.{most_credit, final_of, is_known, fresh, entry_at}
 use Rattle.streams.specs.Conn.{opened_of, count_of, initial_of}
@@ -25,10 +23,11 @@ use Rattle.answers.proofs.Distinct.{impossible}
 use Rattle.accounts.proofs.Tests.{or_true, size_none, unknown_size}
 use Rattle.accounts.proofs.Halves.{count_ours}
 use Rattle.accounts.proofs.Sums.{all_at, all_of, sum_at}
+use Rattle.std.specs.Prelude.{Option, Some, None}
 
 pub record EntryOk (c : Conn) (i : ℕ) (e : Entry) : Type 0 where
   pub within : e.end ≤ e.credit
-  pub size_is : (n : ℕ) → final_of e.size ≡ Known n → n ≡ e.end
+  pub size_is : (n : ℕ) → final_of e.size ≡ Some n → n ≡ e.end
   pub unopened : opened_of c (i / 64) ≤ i % 64 → e ≡ fresh (initial_of c.limits (i / 64))
   pub ceiling : e.credit ≤ most_credit
 
@@ -49,9 +48,9 @@ pub record Fits (c : Conn) (t : List Entry) : Type 0 where
 
 -- ---- by tests
 
-size_test : (f : Final) (x : ℕ) → ((n : ℕ) → f ≡ Known n → n ≡ x) → size_fits f x ≡ true
-size_test Unknown x h = refl
-size_test (Known m) x h = eq-eqb m x (h m refl)
+size_test : (f : Option ℕ) (x : ℕ) → ((n : ℕ) → f ≡ Some n → n ≡ x) → size_fits f x ≡ true
+size_test None x h = refl
+size_test (Some m) x h = eq-eqb m x (h m refl)
 
 fresh_test : (e : Entry) (n : ℕ) → e ≡ fresh n → is_fresh e n ≡ true
 unfolding is_fresh
@@ -75,15 +74,15 @@ fits_test c t h = simp (eq-eqb _ _ h.long, all_of 192 (λ i. entry_fits c i (ent
 
 -- ---- and back: what the test finds is so, where the numbers of what is open stand in a row of four
 
-size_fact : (f : Final) (x n : ℕ) → size_fits f x ≡ true → f ≡ Known n → n ≡ x
-size_fact f x n h e = eqb-true n x (ap (λ (g : Final). size_fits g x) (sym e) ∙ h)
+size_fact : (f : Option ℕ) (x n : ℕ) → size_fits f x ≡ true → f ≡ Some n → n ≡ x
+size_fact f x n h e = eqb-true n x (ap (λ (g : Option ℕ). size_fits g x) (sym e) ∙ h)
 
 none_known : (size : ℕ) → not (is_known (final_of size)) ≡ true → size ≡ 2 ^ 64 - 1
 none_known size h = go (final_of size) refl h
   where
-    go : (f : Final) → final_of size ≡ f → not (is_known f) ≡ true → size ≡ 2 ^ 64 - 1
-    go Unknown e k = unknown_size size e
-    go (Known n) e k = impossible cc
+    go : (f : Option ℕ) → final_of size ≡ f → not (is_known f) ≡ true → size ≡ 2 ^ 64 - 1
+    go None e k = unknown_size size e
+    go (Some n) e k = impossible cc
 
 fresh_fact : (e : Entry) (n : ℕ) → is_fresh e n ≡ true → e ≡ fresh n
 unfolding is_fresh

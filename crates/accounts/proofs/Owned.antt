@@ -16,7 +16,6 @@ use Rattle.answers.specs.declared.Answer.TheVariants.{Accepted, AboveCeiling}
 use Rattle.answers.proofs.Distinct.{impossible}
 use Rattle.streams.specs.declared.Conn.{Conn}
 use Rattle.entries.specs.declared.Entry.{Entry}
-use Rattle.entries.specs.declared.Final.TheVariants.{Known}
 use Rattle.streams.specs.declared.Limits.{Limits}
 use Rattle.streams.specs.declared.Mark.TheVariants.{Open}
 use Rattle.halves.specs.Stream.{most_streams, place_of}
@@ -35,6 +34,7 @@ use Rattle.accounts.proofs.Sums.{sum_zero}
 use Rattle.accounts.proofs.Fits.{EntryOk, Fits}
 use Rattle.accounts.proofs.Halves.{count_ours}
 use Rattle.accounts.proofs.Steps.{taken, has, passes, step_fits}
+use Rattle.std.specs.Prelude.{Some}
 
 -- ---- opening
 
@@ -143,7 +143,7 @@ owned_fresh : (n : ℕ) → Owned [] (fresh n)
 unfolding furthest_of final_named
 owned_fresh n = record { end_is = refl; size_is = size_none }
 
-size_more : (l : List End) (size end : ℕ) (fin : Bool) → end ≤ most_credit → final_of size ≡ final_named l → final_of (fin ⇒ end ∣ size) ≡ (fin ⇒ Known end ∣ final_named l)
+size_more : (l : List End) (size end : ℕ) (fin : Bool) → end ≤ most_credit → final_of size ≡ final_named l → final_of (fin ⇒ end ∣ size) ≡ (fin ⇒ Some end ∣ final_named l)
 size_more l size end true m e = size_known end m
 size_more l size end false m e = e
 

@@ -17,8 +17,6 @@ use Rattle.answers.proofs.Accepts.{passed}
 use Rattle.answers.proofs.Distinct.{impossible}
 use Rattle.streams.specs.declared.Conn.{Conn}
 use Rattle.entries.specs.declared.Entry.{Entry}
-use Rattle.entries.specs.declared.Final.{Final}
-use Rattle.entries.specs.declared.Final.TheVariants.{Known}
 use Rattle.streams.specs.declared.Mark.{Mark}
 use Rattle.streams.specs.declared.Mark.TheVariants.{ByPeer}
 use Rattle.kinds.specs.declared.Space.{Space}
@@ -38,6 +36,7 @@ use Rattle.accounts.specs.History.Event.{Got, Did, Gave}
 use Rattle.accounts.proofs.Tests.{and_false, or_true, or_false, Has, place_is, place_none, size_known}
 use Rattle.accounts.proofs.Fits.{EntryOk, ConnOk, Fits, Grows, kept}
 use Rattle.accounts.proofs.Halves.{count_peers, count_ours, set_at}
+use Rattle.std.specs.Prelude.{Option, Some}
 
 -- ---- a stream opened
 
@@ -113,14 +112,14 @@ pub has : (c : Conn) (t : List Entry) (id end : ℕ) (fin : Bool) → Fits c t �
 has c t id end fin f h = let v = taken c (entry_of t id) id end fin h in (v.kind, omega (arith, f.conn.count_top (id % 4), v.below))
 
 -- a final size is the end, after an accepted frame too
-size_kept : (size end x n : ℕ) (fin : Bool) → end ≤ most_credit → ((m : ℕ) → final_of size ≡ Known m → m ≡ x) → rule3 (final_of size) x end fin ≡ false → final_of (fin ⇒ end ∣ size) ≡ Known n → n ≡ max x end
+size_kept : (size end x n : ℕ) (fin : Bool) → end ≤ most_credit → ((m : ℕ) → final_of size ≡ Some m → m ≡ x) → rule3 (final_of size) x end fin ≡ false → final_of (fin ⇒ end ∣ size) ≡ Some n → n ≡ max x end
 unfolding rule3
 size_kept size end x n true l h r e =
-    let k : final_of end ≡ Known end = size_known end l in
+    let k : final_of end ≡ Some end = size_known end l in
     let p : end ≡ n = cc in
     omega (arith, ltb-false end x (or_false (against (final_of size) end true) (ltb end x) r).1)
 size_kept size end x n false l h r e =
-    let q : against (Known n) end false || false ≡ false = ap (λ (f : Final). against f end false || false) (sym e) ∙ r in
+    let q : against (Some n) end false || false ≡ false = ap (λ (f : Option ℕ). against f end false || false) (sym e) ∙ r in
     omega (arith, h n e, ltb-false n end (or_false (ltb n end) false (or_false (ltb n end || false) false q).0).0)
 
 pub accept : (c : Conn) (t : List Entry) (id end : ℕ) (fin : Bool) → Fits c t → ends_of c (entry_of t id) id end fin ≡ Accepted

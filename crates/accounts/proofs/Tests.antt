@@ -9,9 +9,9 @@ use lib.Dec.{ltb, eqb}
 use borrow.Author.Tests.{lt-ltb, ne_eqb, ltb-true, eqb-true}
 use Rattle.answers.specs.Choice.{◌⇒◌∣◌}
 use Rattle.answers.proofs.Distinct.{impossible}
-use Rattle.entries.specs.declared.Final.TheVariants.{Unknown, Known}
 use Rattle.halves.specs.Stream.{listed, place_of}
 use Rattle.entries.specs.Entry.{final_of}
+use Rattle.std.specs.Prelude.{Some, None}
 
 -- ---- connectives
 
@@ -59,18 +59,18 @@ place_none = refl
 
 -- ---- final sizes
 
-pub size_none : final_of (2 ^ 64 - 1) ≡ Unknown
+pub size_none : final_of (2 ^ 64 - 1) ≡ None
 unfolding final_of
 size_none = refl
 
-pub size_known : (n : ℕ) → n ≤ 2 ^ 62 - 1 → final_of n ≡ Known n
+pub size_known : (n : ℕ) → n ≤ 2 ^ 62 - 1 → final_of n ≡ Some n
 unfolding final_of
 size_known n l = simp (ne_eqb n (2 ^ 64 - 1) (omega arith))
 
-pub unknown_size : (n : ℕ) → final_of n ≡ Unknown → n ≡ 2 ^ 64 - 1
+pub unknown_size : (n : ℕ) → final_of n ≡ None → n ≡ 2 ^ 64 - 1
 unfolding final_of
 unknown_size n e = go (eqb n (2 ^ 64 - 1)) refl e
   where
-    go : (b : Bool) → eqb n (2 ^ 64 - 1) ≡ b → (b ⇒ Unknown ∣ Known n) ≡ Unknown → n ≡ 2 ^ 64 - 1
+    go : (b : Bool) → eqb n (2 ^ 64 - 1) ≡ b → (b ⇒ None ∣ Some n) ≡ None → n ≡ 2 ^ 64 - 1
     go true p q = eqb-true n (2 ^ 64 - 1) p
     go false p q = impossible cc

@@ -1,5 +1,5 @@
 -- The rules of streams, local calls and 120 at their borders, each from both sides: they hold the definitions to docs/RULES.md. Beside each, its sentence.
-use Rattle.std.specs.Prelude.{ℕ, ◌-◌, ◌^◌, ◌≡◌, true, false, List, [], ◌∷◌, map}
+use Rattle.std.specs.Prelude.{ℕ, ◌-◌, ◌^◌, ◌≡◌, true, false, List, [], ◌∷◌, map, Some, None}
 use Rattle.kinds.specs.declared.Role.TheVariants.{Server}
 use Rattle.answers.specs.Answers.{number_of}
 use Rattle.kinds.specs.declared.Kind.TheVariants.{Initial as Initial', Handshake as Handshake', ZeroRtt, OneRtt}
@@ -20,7 +20,6 @@ use Rattle.verdicts.specs.Verdict.{verdict_of, conn_heard}
 use Rattle.calls.specs.declared.Call.{Call}
 use Rattle.calls.specs.declared.Call.TheVariants.{RaiseCredit, RaiseStream, RaiseCount, OpenNext}
 use Rattle.replies.specs.Replies.{replied_of}
-use Rattle.limits.specs.declared.fits.Summed.TheVariants.{To, Unfit}
 use Rattle.limits.specs.Fits.{entry_fits, conn_fits, summed_of, concluded_of}
 
 -- the connection credit, the counts of the peer's two halves, the initial credits of the three that receive
@@ -100,6 +99,6 @@ pub record Borders : Type 0 where
   -- "more is open than the count allows"
   pub open_fits : map conn_fits (bench 4 64 4 64 0 Open ∷ bench 5 0 0 0 0 Open ∷ bench 0 65 0 0 0 Open ∷ bench 0 0 5 0 0 Open ∷ bench 0 0 0 65 0 Open ∷ []) ≡ true ∷ false ∷ false ∷ false ∷ false ∷ []
   -- "the total .. is above the connection credit": the running sum stops there
-  pub sum_fits : map (summed_of 40 1 16 0 (entry 16 16 (2 ^ 64 - 1))) (To 24 ∷ To 25 ∷ Unfit ∷ []) ≡ To 40 ∷ Unfit ∷ Unfit ∷ []
+  pub sum_fits : map (summed_of 40 1 16 0 (entry 16 16 (2 ^ 64 - 1))) (Some 24 ∷ Some 25 ∷ None ∷ []) ≡ Some 40 ∷ None ∷ None ∷ []
   -- "the total is not the sum of the ends"
-  pub total_fits : map (concluded_of (bench 1 0 0 0 0 Open)) (To 0 ∷ To 1 ∷ Unfit ∷ []) ≡ true ∷ false ∷ false ∷ []
+  pub total_fits : map (concluded_of (bench 1 0 0 0 0 Open)) (Some 0 ∷ Some 1 ∷ None ∷ []) ≡ true ∷ false ∷ false ∷ []

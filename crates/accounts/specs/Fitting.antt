@@ -1,12 +1,11 @@
 -- 120 for the table clause by clause, each from both sides, on a connection all of whose numbers differ: docs/RULES.md, "120 for the table": "120 for the table, before all else and only then".
-use Rattle.std.specs.Prelude.{ℕ, ◌-◌, ◌^◌, ◌≡◌, Bool, true, false, List, [], ◌∷◌, ◌++◌, map, set, take}
+use Rattle.std.specs.Prelude.{ℕ, ◌-◌, ◌^◌, ◌≡◌, Bool, true, false, List, [], ◌∷◌, ◌++◌, map, set, take, Some, None}
 use Rattle.kinds.specs.declared.Role.TheVariants.{Server}
 use Rattle.streams.specs.declared.Conn.{Conn}
 use Rattle.streams.specs.declared.Limits.{Limits}
 use Rattle.streams.specs.declared.Mark.TheVariants.{Open, ByPeer}
 use Rattle.streams.specs.Conn.{limits_fit}
 use Rattle.entries.specs.declared.Entry.{Entry}
-use Rattle.limits.specs.declared.fits.Summed.TheVariants.{To, Unfit}
 use Rattle.limits.specs.Fits.{entry_fits, open_fit, conn_fits, fits, summed_of, concluded_of, part_of}
 use Rattle.limits.specs.Rest.{opened_in, rest_of}
 use Rattle.accounts.specs.History.{opened}
@@ -65,20 +64,20 @@ pub record Fitting : Type 0 where
   -- where all 64 are open, the last of each type
   pub open_last : map (λ i. entry_fits (opening 64 64 64 64) i (entry 19 9 9)) (63 ∷ 127 ∷ 191 ∷ []) ≡ true ∷ true ∷ true ∷ []
   -- "the total is not the sum of the ends or is above the connection credit": one entry more, where 2 are open with initial credit 16 and the connection credit is 40
-  pub sums : map (summed_of 40 2 16 1 (growing 16 16)) (To 0 ∷ To 24 ∷ To 25 ∷ Unfit ∷ []) ≡ To 16 ∷ To 40 ∷ Unfit ∷ Unfit ∷ []
-  pub sums_unfit : map (λ e. summed_of 40 2 16 1 e (To 24)) (growing 16 17 ∷ entry 16 5 4 ∷ growing (2 ^ 62) 0 ∷ entry 16 5 5 ∷ []) ≡ Unfit ∷ Unfit ∷ Unfit ∷ To 29 ∷ []
-  pub sums_unopened : map (λ e. summed_of 40 2 16 2 e (To 24)) (growing 16 0 ∷ growing 17 0 ∷ growing 16 1 ∷ entry 16 0 0 ∷ []) ≡ To 24 ∷ Unfit ∷ Unfit ∷ Unfit ∷ []
-  pub concludes : map (concluded_of before) (To 20 ∷ To 19 ∷ To 21 ∷ Unfit ∷ []) ≡ true ∷ false ∷ false ∷ false ∷ []
-  pub concludes_conn : map (λ c. concluded_of c (To 40)) (held 3 2 5 4 40 Open ∷ held 4 2 5 4 40 Open ∷ held 3 2 6 4 40 Open ∷ []) ≡ true ∷ false ∷ false ∷ []
-  pub concludes_above : concluded_of (held 1 2 3 4 41 Open) (To 41) ≡ false
+  pub sums : map (summed_of 40 2 16 1 (growing 16 16)) (Some 0 ∷ Some 24 ∷ Some 25 ∷ None ∷ []) ≡ Some 16 ∷ Some 40 ∷ None ∷ None ∷ []
+  pub sums_unfit : map (λ e. summed_of 40 2 16 1 e (Some 24)) (growing 16 17 ∷ entry 16 5 4 ∷ growing (2 ^ 62) 0 ∷ entry 16 5 5 ∷ []) ≡ None ∷ None ∷ None ∷ Some 29 ∷ []
+  pub sums_unopened : map (λ e. summed_of 40 2 16 2 e (Some 24)) (growing 16 0 ∷ growing 17 0 ∷ growing 16 1 ∷ entry 16 0 0 ∷ []) ≡ Some 24 ∷ None ∷ None ∷ None ∷ []
+  pub concludes : map (concluded_of before) (Some 20 ∷ Some 19 ∷ Some 21 ∷ None ∷ []) ≡ true ∷ false ∷ false ∷ false ∷ []
+  pub concludes_conn : map (λ c. concluded_of c (Some 40)) (held 3 2 5 4 40 Open ∷ held 4 2 5 4 40 Open ∷ held 3 2 6 4 40 Open ∷ []) ≡ true ∷ false ∷ false ∷ []
+  pub concludes_above : concluded_of (held 1 2 3 4 41 Open) (Some 41) ≡ false
   -- of 64 entries so many are opened
   pub opened_in_law : map opened_in (0 ∷ 1 ∷ 63 ∷ 64 ∷ 65 ∷ (2 ^ 64 - 1) ∷ []) ≡ 0 ∷ 1 ∷ 63 ∷ 64 ∷ 64 ∷ 64 ∷ []
   -- the rest of them are as opening set them, or they do not fit; where all are opened there is no rest
-  pub rest : map (rest_of 40 63 16 (To 40)) (true ∷ false ∷ []) ≡ To 40 ∷ Unfit ∷ []
-  pub rest_none : map (rest_of 40 64 (2 ^ 62) (To 41)) (true ∷ false ∷ []) ≡ To 41 ∷ To 41 ∷ []
-  pub rest_sum : map (λ sum. rest_of 40 0 16 sum true) (To 0 ∷ To 40 ∷ To 41 ∷ Unfit ∷ []) ≡ To 0 ∷ To 40 ∷ Unfit ∷ Unfit ∷ []
-  pub rest_credit : map (λ init. rest_of 40 1 init (To 20) true) ((2 ^ 62 - 1) ∷ (2 ^ 62) ∷ []) ≡ To 20 ∷ Unfit ∷ []
-  pub rest_unfit : map (rest_of 40 64 16 Unfit) (true ∷ false ∷ []) ≡ Unfit ∷ Unfit ∷ []
+  pub rest : map (rest_of 40 63 16 (Some 40)) (true ∷ false ∷ []) ≡ Some 40 ∷ None ∷ []
+  pub rest_none : map (rest_of 40 64 (2 ^ 62) (Some 41)) (true ∷ false ∷ []) ≡ Some 41 ∷ Some 41 ∷ []
+  pub rest_sum : map (λ sum. rest_of 40 0 16 sum true) (Some 0 ∷ Some 40 ∷ Some 41 ∷ None ∷ []) ≡ Some 0 ∷ Some 40 ∷ None ∷ None ∷ []
+  pub rest_credit : map (λ init. rest_of 40 1 init (Some 20) true) ((2 ^ 62 - 1) ∷ (2 ^ 62) ∷ []) ≡ Some 20 ∷ None ∷ []
+  pub rest_unfit : map (rest_of 40 64 16 None) (true ∷ false ∷ []) ≡ None ∷ None ∷ []
   -- what the check asks for each type
   pub parts : map (part_of before) (0 ∷ 1 ∷ 2 ∷ []) ≡ record { credit = 40; opened = 1; initial = 16 } ∷ record { credit = 40; opened = 2; initial = 17 } ∷ record { credit = 40; opened = 3; initial = 18 } ∷ []
   -- the whole check: "it is not 192 entries" ..

@@ -1,13 +1,11 @@
 -- Histories: a connection with its lent table from opening on, and what the accepted frames and calls alone say of each stream.
-use Rattle.std.specs.Prelude.{ℕ, zero, suc, ◌/◌, max, ◌≡◌, Bool, true, false, not, List, [], ◌∷◌, set, eqb}
+use Rattle.std.specs.Prelude.{ℕ, zero, suc, ◌/◌, max, ◌≡◌, Bool, true, false, not, List, [], ◌∷◌, set, eqb, Option, Some, None}
 use Rattle.kinds.specs.declared.Role.{Role}
 use Rattle.answers.specs.Choice.{◌⇒◌∣◌}
 use Rattle.answers.specs.declared.Answer.{Answer}
 use Rattle.answers.specs.declared.Answer.TheVariants.{Accepted, FlowControl, StreamLimit, StreamState, FinalSize, Closed, DoesNotFit}
 use Rattle.streams.specs.declared.Conn.{Conn}
 use Rattle.entries.specs.declared.Entry.{Entry}
-use Rattle.entries.specs.declared.Final.{Final}
-use Rattle.entries.specs.declared.Final.TheVariants.{Unknown, Known}
 use Rattle.streams.specs.declared.Limits.{Limits}
 use Rattle.streams.specs.declared.Mark.TheVariants.{Open}
 use Rattle.kinds.specs.declared.Space.{Space}
@@ -136,9 +134,9 @@ unfoldable pub furthest_of : List End → ℕ
 furthest_of [] = 0
 furthest_of (x ∷ l) = max (furthest_of l) x.end
 
-unfoldable pub final_named : List End → Final
-final_named [] = Unknown
-final_named (x ∷ l) = x.fin ⇒ Known x.end ∣ final_named l
+unfoldable pub final_named : List End → Option ℕ
+final_named [] = None
+final_named (x ∷ l) = x.fin ⇒ Some x.end ∣ final_named l
 
 -- the furthest end or final size that an accepted frame named for a stream
 abbrev pub furthest : List Event → ℕ → ℕ

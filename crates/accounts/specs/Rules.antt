@@ -1,5 +1,5 @@
 -- docs/RULES.md, "Streams and credit": rules 1 to 5 and those of the frames that name a stream without an end, at their borders: each rule alone from both sides, and each before the next where both refuse. Beside each, its sentence.
-use Rattle.std.specs.Prelude.{ℕ, ◌-◌, ◌^◌, ◌≡◌, Bool, true, false, List, [], ◌∷◌, map}
+use Rattle.std.specs.Prelude.{ℕ, ◌-◌, ◌^◌, ◌≡◌, Bool, true, false, List, [], ◌∷◌, map, Some, None}
 use Rattle.kinds.specs.declared.Role.TheVariants.{Server}
 use Rattle.answers.specs.Answers.{number_of}
 use Rattle.kinds.specs.declared.Kind.TheVariants.{OneRtt}
@@ -8,7 +8,6 @@ use Rattle.streams.specs.declared.Conn.{Conn}
 use Rattle.streams.specs.declared.Mark.TheVariants.{Open}
 use Rattle.kinds.specs.declared.Space.TheVariants.{Initial, Handshake, Application}
 use Rattle.entries.specs.declared.Entry.{Entry}
-use Rattle.entries.specs.declared.Final.TheVariants.{Unknown, Known}
 use Rattle.entries.specs.Entry.{final_of, fresh}
 use Rattle.rules.specs.declared.View.TheVariants.{Ends, Blocks, ForSender, Acks}
 use Rattle.views.specs.View.{view_of}
@@ -44,7 +43,7 @@ pub record Rules : Type 0 where
   pub last_ordinals : ending_on most (fresh 16) 1 false (252 ∷ 256 ∷ 253 ∷ 257 ∷ 254 ∷ 258 ∷ 255 ∷ 259 ∷ []) ≡ 0 ∷ 4 ∷ 0 ∷ 5 ∷ 0 ∷ 4 ∷ 5 ∷ 5 ∷ []
   pub last_ids : ending_on most (fresh 16) 1 false ((2 ^ 62 - 4) ∷ (2 ^ 62 - 3) ∷ (2 ^ 62 - 2) ∷ (2 ^ 62 - 1) ∷ []) ≡ 4 ∷ 5 ∷ 4 ∷ 5 ∷ []
   -- a size that no stream can have stands for none; a known one may be 0
-  pub sizes : map final_of (0 ∷ 10 ∷ (2 ^ 62 - 1) ∷ (2 ^ 64 - 2) ∷ (2 ^ 64 - 1) ∷ []) ≡ Known 0 ∷ Known 10 ∷ Known (2 ^ 62 - 1) ∷ Known (2 ^ 64 - 2) ∷ Unknown ∷ []
+  pub sizes : map final_of (0 ∷ 10 ∷ (2 ^ 62 - 1) ∷ (2 ^ 64 - 2) ∷ (2 ^ 64 - 1) ∷ []) ≡ Some 0 ∷ Some 10 ∷ Some (2 ^ 62 - 1) ∷ Some (2 ^ 64 - 2) ∷ None ∷ []
   -- 3. "final size known and end above it" ..
   pub after_final : ending (held 3 0 0 0 10 Open) (entry 16 10 10) false (0 ∷ 5 ∷ 10 ∷ 11 ∷ []) ≡ 0 ∷ 0 ∷ 0 ∷ 6 ∷ []
   -- .. "or FIN with another end" ..
@@ -53,11 +52,11 @@ pub record Rules : Type 0 where
   pub final_below : ending (held 3 0 0 0 10 Open) (growing 16 10) true (0 ∷ 9 ∷ 10 ∷ 11 ∷ 16 ∷ []) ≡ 6 ∷ 6 ∷ 0 ∷ 0 ∷ 0 ∷ []
   -- without FIN and without a known final size it refuses no end
   pub never_final : ending (held 3 0 0 0 10 Open) (growing 16 10) false (0 ∷ 9 ∷ 10 ∷ 11 ∷ 16 ∷ []) ≡ 0 ∷ 0 ∷ 0 ∷ 0 ∷ 0 ∷ []
-  pub any_end : map (λ end. rule3 Unknown 10 end false) (0 ∷ 9 ∷ 10 ∷ 11 ∷ (2 ^ 62 - 1) ∷ []) ≡ false ∷ false ∷ false ∷ false ∷ false ∷ []
+  pub any_end : map (λ end. rule3 None 10 end false) (0 ∷ 9 ∷ 10 ∷ 11 ∷ (2 ^ 62 - 1) ∷ []) ≡ false ∷ false ∷ false ∷ false ∷ false ∷ []
   -- each arm alone: an end above the known size; FIN with another end, where less has come; FIN below what has come
-  pub third_rule : map (λ end. rule3 (Known 10) 4 end false) (3 ∷ 4 ∷ 10 ∷ 11 ∷ []) ≡ false ∷ false ∷ false ∷ true ∷ []
-  pub third_rule_final : map (λ end. rule3 (Known 10) 4 end true) (3 ∷ 4 ∷ 9 ∷ 10 ∷ 11 ∷ []) ≡ true ∷ true ∷ true ∷ false ∷ true ∷ []
-  pub third_rule_unknown : map (λ end. rule3 Unknown 4 end true) (3 ∷ 4 ∷ 5 ∷ []) ≡ true ∷ false ∷ false ∷ []
+  pub third_rule : map (λ end. rule3 (Some 10) 4 end false) (3 ∷ 4 ∷ 10 ∷ 11 ∷ []) ≡ false ∷ false ∷ false ∷ true ∷ []
+  pub third_rule_final : map (λ end. rule3 (Some 10) 4 end true) (3 ∷ 4 ∷ 9 ∷ 10 ∷ 11 ∷ []) ≡ true ∷ true ∷ true ∷ false ∷ true ∷ []
+  pub third_rule_unknown : map (λ end. rule3 None 4 end true) (3 ∷ 4 ∷ 5 ∷ []) ≡ true ∷ false ∷ false ∷ []
   -- a stream that ended with nothing
   pub ended_empty : ending (held 3 0 0 0 0 Open) (entry 16 0 0) false (0 ∷ 1 ∷ []) ≡ 0 ∷ 6 ∷ []
   pub ended_empty_final : ending (held 3 0 0 0 0 Open) (entry 16 0 0) true (0 ∷ 1 ∷ []) ≡ 0 ∷ 6 ∷ []

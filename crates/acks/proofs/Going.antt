@@ -8,22 +8,23 @@ use native.Mathlib.Numerals.{add-one, add-two}
 use native.Mathlib.Omega.{arith}
 use lib.ListN.{length, take, set, length-set}
 use lib.Seq.{take-suc-set, take-set-lt}
-use Rattle.ring.specs.declared.Run.TheVariants.{Span, Nothing}
 use Rattle.ring.specs.Runs.{next_run, after_run, runs_down, IsRun, RunOf}
 use Rattle.ring.proofs.Meaning.{run_is, apart}
 use Rattle.acks.specs.Ack.{ranges_of, frame_of}
 use Rattle.acks.specs.Parts.{Ranged, Framed}
+use Rattle.std.specs.Prelude.{Some, None}
+use Rattle.ring.specs.declared.Run.{Run}
 
 -- the next run, as it is meant
-pub is_run : (P : ℕ → Bool) (k : ℕ) {high low : ℕ} → next_run P k ≡ Span high low → IsRun P k high low
+pub is_run : (P : ℕ → Bool) (k : ℕ) {r : Run} → next_run P k ≡ Some r → IsRun P k r.high r.low
 is_run P k e = subst (RunOf P k) e (run_is P k)
 
 -- the next run and those below it
-pub more : (P : ℕ → Bool) (j k : ℕ) {high low : ℕ} → next_run P k ≡ Span high low → runs_down (suc j) P k ≡ Span high low ∷ runs_down j P low
+pub more : (P : ℕ → Bool) (j k : ℕ) {r : Run} → next_run P k ≡ Some r → runs_down (suc j) P k ≡ r ∷ runs_down j P r.low
 unfolding runs_down after_run
 more P j k e = rw e
 
-pub none : (P : ℕ → Bool) (n k : ℕ) → next_run P k ≡ Nothing → runs_down n P k ≡ []
+pub none : (P : ℕ → Bool) (n k : ℕ) → next_run P k ≡ None → runs_down n P k ≡ []
 unfolding runs_down after_run
 none P zero k e = refl
 none P (suc n) k e = rw e
@@ -45,18 +46,18 @@ take_two l n a b h =
 
 module _ (P : ℕ → Bool) (low : ℕ) (start numbers : List ℕ) (bottom n : ℕ) where
   -- between two runs a number is missing, so the gap is not negative
-  pub gap : {k high next : ℕ} → Going P low start numbers bottom n k → next_run P bottom ≡ Span high next → (high + 2 ≤ bottom) × (next ≤ high)
+  pub gap : {k : ℕ} {r : Run} → Going P low start numbers bottom n k → next_run P bottom ≡ Some r → (r.high + 2 ≤ bottom) × (r.low ≤ r.high)
   gap g e =
       let r = is_run P bottom e in
       let p : 0 < bottom = omega (arith, r.below) in
       (apart P bottom _ _ p (g.stop p) r, r.ordered)
 
   -- one run more
-  pub turn : (k : ℕ) {high next : ℕ} → n < 67 → Going P low start numbers bottom n k → next_run P bottom ≡ Span high next
-      → (j : ℕ) × Going P low start (set (set numbers n (bottom - high - 2)) (n + 1) (high - next)) next (n + 2) j
+  pub turn : (k : ℕ) {r : Run} → n < 67 → Going P low start numbers bottom n k → next_run P bottom ≡ Some r
+      → (j : ℕ) × Going P low start (set (set numbers n (bottom - r.high - 2)) (n + 1) (r.high - r.low)) r.low (n + 2) j
   unfolding ranges_of
   turn zero h g e = absurd (omega (arith, g.left))
-  turn (suc j) {high} {next} h g e =
+  turn (suc j) {r} h g e =
       let m = more P j bottom e in (
         j,
         record {
@@ -65,7 +66,7 @@ module _ (P : ℕ → Bool) (low : ℕ) (start numbers : List ℕ) (bottom n : �
           long = rw (length-set, length-set) g.long;
           stop = (is_run P bottom e).stop;
           count = omega (arith, rw m at g.count);
-          holds = rw (take_two numbers n (bottom - high - 2) (high - next) (omega (arith, g.left, g.long)), append_assoc) (rw m at g.holds);
+          holds = rw (take_two numbers n (bottom - r.high - 2) (r.high - r.low) (omega (arith, g.left, g.long)), append_assoc) (rw m at g.holds);
         },
       )
 
@@ -89,13 +90,13 @@ head (v ∷ w ∷ x ∷ []) a b c e h = absurd (omega arith)
 head (v ∷ w ∷ x ∷ d ∷ []) a b c e h = absurd (omega arith)
 
 -- the whole frame: the count of ranges goes to its place among the first five
-pub framed : (P : ℕ → Bool) (top delay high low : ℕ) (start numbers : List ℕ) (count : ℕ) → next_run P top ≡ Span high low → length start ≡ 67
-    → Ranged P low (set (set (set (set start 0 2) 1 high) 2 delay) 4 (high - low)) count numbers
+pub framed : (P : ℕ → Bool) (top delay : ℕ) (run : Run) (start numbers : List ℕ) (count : ℕ) → next_run P top ≡ Some run → length start ≡ 67
+    → Ranged P run.low (set (set (set (set start 0 2) 1 run.high) 2 delay) 4 (run.high - run.low)) count numbers
     → Framed P top delay count (set numbers 3 ((count - 5) / 2))
 unfolding frame_of
-framed P top delay high low start numbers count e h r =
-    let d = head start 2 high delay (high - low) h in
-    let half : (count - 5) / 2 ≡ length (runs_down 31 P low) = omega (arith, r.count) in
+framed P top delay run start numbers count e h r =
+    let d = head start 2 run.high delay (run.high - run.low) h in
+    let half : (count - 5) / 2 ≡ length (runs_down 31 P run.low) = omega (arith, r.count) in
     record {
       long = rw length-set r.long;
       most = r.most;

@@ -6,21 +6,18 @@ use Rattle.wire.specs.Writing.{Draft, Never}
 use Rattle.row.specs.Row.{row_draft}
 use Rattle.records.specs.declared.Record.{Record}
 use Rattle.ring.specs.declared.Run.{Run}
-use Rattle.ring.specs.declared.Run.TheVariants.{Span, Nothing}
 use Rattle.records.specs.Marks.{recorded, sound_of}
 use Rattle.ring.specs.Runs.{runs_down}
 
 -- 19.3.1: for each further run its Gap, the missing numbers less 1, and its ACK Range Length, the run's numbers less 1; low is the lowest number of the run above
 unfoldable pub ranges_of : ℕ → List Run → List ℕ
 ranges_of low [] = []
-ranges_of low (Span high next ∷ runs) = (low - high - 2) ∷ (high - next) ∷ ranges_of next runs
-ranges_of low (Nothing ∷ runs) = []
+ranges_of low (r ∷ runs) = (low - r.high - 2) ∷ (r.high - r.low) ∷ ranges_of r.low runs
 
 -- 19.3: type 0x02, Largest Acknowledged, ACK Delay, ACK Range Count, First ACK Range, ACK Ranges; no frame if there is no run
 unfoldable pub frame_of : ℕ → List Run → List ℕ
 frame_of delay [] = []
-frame_of delay (Span high low ∷ runs) = 2 ∷ high ∷ delay ∷ length runs ∷ (high - low) ∷ ranges_of low runs
-frame_of delay (Nothing ∷ runs) = []
+frame_of delay (r ∷ runs) = 2 ∷ r.high ∷ delay ∷ length runs ∷ (r.high - r.low) ∷ ranges_of r.low runs
 
 -- at most 32 runs, from the highest number down, each as long as it can be
 unfoldable pub ack_of : Record → ℕ → List ℕ

@@ -5,73 +5,57 @@
 ghost use Rattle.std.specs.Prelude.{◌≡◌, length};
 ghost use Rattle.wire.specs.Writing.{writes};
 ghost use Rattle.ring.specs.Bits.{marked};
-ghost use Rattle.records.specs.Parts.{joined};
 ghost use Rattle.acks.specs.Ack.{ack_draft};
 ghost use Rattle.acks.specs.Parts.{Below, Ranged, Framed};
 
 use answers::Answer;
 use records::Record;
-use ring::Run;
-use wire::Wrote;
 
 // The gaps and lengths of the runs below a run whose lowest number is `low`, from the sixth number on; 31 runs at most. Tells how many numbers there are then.
-fn ranges(words: &[u64; 128], top: u64, low: u64, numbers: &mut [u64; 67]) -> usize
-    requires { Below (marked words.now top) low × (length numbers.old ≡ 67) }
-    ensures { Ranged (marked words.now top) low numbers.old result numbers.new }
+fn ranges(seen: &Record, low: u64, numbers: &mut [u64; 67]) -> usize
+    requires { Below (marked seen.now.words seen.now.top) low × (length numbers.old ≡ 67) }
+    ensures { Ranged (marked seen.now.words seen.now.top) low numbers.old result numbers.new }
 {
     let mut lowest = low;
-    let mut n = 5;
-    while n < 67 {
-        let Run::Span { high, low: next } = ring::next_run(words, top, lowest) else {
+    for i in 0..31 {
+        let n = 5 + 2 * i;
+        let Some(run) = ring::next_run(&seen.words, seen.top, lowest) else {
             return n;
         };
-        numbers[n] = lowest - high - 2;
-        numbers[n + 1] = high - next;
-        lowest = next;
-        n += 2;
+        numbers[n] = lowest - run.high - 2;
+        numbers[n + 1] = run.high - run.low;
+        lowest = run.low;
     }
-    n
+    67
 }
 
 // All numbers of the frame; none if nothing is recorded.
-fn frame(words: &[u64; 128], top: u64, delay: u64, numbers: &mut [u64; 67]) -> usize
+fn frame(seen: &Record, delay: u64, numbers: &mut [u64; 67]) -> usize
     requires { length numbers.old ≡ 67 }
-    ensures { Framed (marked words.now top) top delay result numbers.new }
+    ensures { Framed (marked seen.now.words seen.now.top) seen.now.top delay result numbers.new }
 {
-    let Run::Span { high, low } = ring::next_run(words, top, top) else {
+    let Some(run) = ring::next_run(&seen.words, seen.top, seen.top) else {
         return 0;
     };
     numbers[0] = 2;
-    numbers[1] = high;
+    numbers[1] = run.high;
     numbers[2] = delay;
-    numbers[4] = high - low;
-    let count = ranges(words, top, low, numbers);
+    numbers[4] = run.high - run.low;
+    let count = ranges(seen, run.low, numbers);
     numbers[3] = (count as u64 - 5) / 2;
     count
 }
 
-// The acknowledgement of words that are lent.
-fn write_of(words: &[u64; 128], top: u64, delay: u64, out: &mut [u8], at: usize) -> Wrote
-    ensures { (result, out.new) ≡ writes (ack_draft (joined words.now top) delay) out.old at }
-{
-    let Answer::Accepted = records::check_of(words, top) else {
-        return Wrote::Refused {
-            answer: Answer::DoesNotFit,
-        };
-    };
-    if top == 0 {
-        return Wrote::Refused {
-            answer: Answer::NothingToAcknowledge,
-        };
-    }
-    let mut numbers = [0u64; 67];
-    let count = frame(words, top, delay, &mut numbers);
-    row::write(out, at, &numbers[..count])
-}
-
 // Writes the acknowledgement of a record at a place, with the delay that the caller names. A refusal leaves the output untouched.
-pub fn write(seen: Record, delay: u64, out: &mut [u8], at: usize) -> Wrote
+#[tactic(auto, unfolding(crate::specs::Ack::ack_draft, records::specs::Marks::check_of, wire::specs::Writing::writes))]
+pub fn write(seen: Record, delay: u64, out: &mut [u8], at: usize) -> Result<usize, Answer>
     ensures { (result, out.new) ≡ writes (ack_draft seen delay) out.old at }
 {
-    write_of(&seen.words, seen.top, delay, out, at)
+    records::check_of(&seen)?;
+    if seen.top == 0 {
+        return Err(Answer::NothingToAcknowledge);
+    }
+    let mut numbers = [0u64; 67];
+    let count = frame(&seen, delay, &mut numbers);
+    row::write(out, at, &numbers[..count])
 }

@@ -10,34 +10,19 @@ use layouts::types;
 fn except_early(kind: Kind) -> bool
     ensures { result ≡ except_early kind }
 {
-    match kind {
-        Kind::Initial => true,
-        Kind::Handshake => true,
-        Kind::ZeroRtt => false,
-        Kind::OneRtt => true,
-    }
+    !matches!(kind, Kind::ZeroRtt)
 }
 
 fn only_one_rtt(kind: Kind) -> bool
     ensures { result ≡ only_one_rtt kind }
 {
-    match kind {
-        Kind::Initial => false,
-        Kind::Handshake => false,
-        Kind::ZeroRtt => false,
-        Kind::OneRtt => true,
-    }
+    matches!(kind, Kind::OneRtt)
 }
 
 fn early_or_one_rtt(kind: Kind) -> bool
     ensures { result ≡ early_or_one_rtt kind }
 {
-    match kind {
-        Kind::Initial => false,
-        Kind::Handshake => false,
-        Kind::ZeroRtt => true,
-        Kind::OneRtt => true,
-    }
+    matches!(kind, Kind::ZeroRtt | Kind::OneRtt)
 }
 
 // Whether packets of a kind come to us at all: 0-RTT packets go to servers.
@@ -61,6 +46,7 @@ fn from_servers(role: Role, kind: Kind) -> bool
 }
 
 // Whether a packet of this kind may carry a frame of this type to us.
+#[tactic(auto, unfolding(crate::specs::Admission::admitted))]
 pub fn admits(role: Role, kind: Kind, ty: u64) -> bool
     ensures { result ≡ admitted role kind ty }
 {
@@ -68,16 +54,10 @@ pub fn admits(role: Role, kind: Kind, ty: u64) -> bool
         return false;
     }
     match ty {
-        types::PADDING => true,
-        types::PING => true,
-        types::ACK => except_early(kind),
-        types::ACK_ECN => except_early(kind),
-        types::CRYPTO => except_early(kind),
-        types::NEW_TOKEN => from_servers(role, kind),
-        types::RETIRE_CONNECTION_ID => only_one_rtt(kind),
-        types::PATH_RESPONSE => only_one_rtt(kind),
-        types::CONNECTION_CLOSE => true,
-        types::HANDSHAKE_DONE => from_servers(role, kind),
+        types::PADDING | types::PING | types::CONNECTION_CLOSE => true,
+        types::ACK | types::ACK_ECN | types::CRYPTO => except_early(kind),
+        types::PATH_RESPONSE | types::RETIRE_CONNECTION_ID => only_one_rtt(kind),
+        types::NEW_TOKEN | types::HANDSHAKE_DONE => from_servers(role, kind),
         _ => early_or_one_rtt(kind),
     }
 }

@@ -3,6 +3,7 @@ pub mod Choice
 pub mod Distinct
 pub mod Firm
 pub mod Numbers
+pub mod Outcome
 pub mod Said
 pub mod Table
 pub mod Unique

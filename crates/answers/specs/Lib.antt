@@ -2,3 +2,4 @@ pub mod Choice
 pub mod Answers
 pub mod Firm
 pub mod Table
+pub mod Outcome

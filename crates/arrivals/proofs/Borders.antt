@@ -8,8 +8,6 @@ use lib.IntN.{pos}
 use Rattle.wire.specs.Number.{big_endian, spelled}
 use Rattle.ring.specs.Bits.{bit, bit_at, unmarked}
 use Rattle.numbers.specs.declared.Size.TheVariants.{One}
-use Rattle.numbers.specs.declared.Recovered.{Recovered}
-use Rattle.numbers.specs.declared.Recovered.TheVariants.{Is, Refused}
 use Rattle.numbers.specs.Numbers.{nearest_of, recovered_of, length_after, length_of}
 use Rattle.headers.specs.First.{header_of, size_in, reserved_of}
 use Rattle.records.specs.Marks.{recorded, test_of, sound_of}
@@ -21,11 +19,13 @@ use Rattle.arrivals.specs.Trusted.{Receiver}
 use Rattle.arrivals.specs.Trusted.Receiver.{Behind, Ahead}
 use Rattle.arrivals.specs.Borders.{only, Borders}
 use Rattle.arrivals.proofs.Expected.{one_above}
+use Rattle.std.specs.Prelude.{Result, Ok, Err}
+use Rattle.answers.specs.declared.Answer.{Answer}
 
 -- the number that was recovered
-abbrev value : Recovered → ℕ
-value (Is n) = n
-value (Refused answer) = 0
+abbrev value : Result ℕ Answer → ℕ
+value (Ok n) = n
+value (Err answer) = 0
 
 -- a receiver stands below the acknowledged number, or half of 256 or more ahead
 beyond : (E : ℕ) → (10001 ≤ E → E < 10256 → ⊥) → Receiver 10128 (pos 10000) One E → ⊥

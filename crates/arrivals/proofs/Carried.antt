@@ -14,7 +14,6 @@ use Rattle.wire.specs.Number.{big_endian, spelled, Stands}
 use Rattle.wire.proofs.BigEndian.{length_spelled, read_low}
 use Rattle.kinds.specs.declared.Kind.{Kind}
 use Rattle.kinds.specs.Kinds.{space_of}
-use Rattle.numbers.specs.declared.Recovered.TheVariants.{Is}
 use Rattle.numbers.specs.Numbers.{bytes_in, window_of, recovered_of}
 use Rattle.headers.specs.First.{size_in}
 use Rattle.records.specs.declared.Record.{Record}
@@ -33,6 +32,7 @@ use Rattle.arrivals.specs.Carried.{Sent, carrying, BegunAs, OnBytes}
 use Rattle.arrivals.proofs.Expected.{one_above, one_such, expected}
 use Rattle.arrivals.proofs.Checked.{in_order}
 use Rattle.arrivals.proofs.Trusted.{trusted}
+use Rattle.std.specs.Prelude.{Ok}
 
 -- what was put in front stands there
 stands : (a b : List ℕ) → Stands (a ++ b) 0 a
@@ -55,10 +55,10 @@ module _ (pn first : ℕ) (payload : List ℕ) where
     top_is : R.top ≡ sent.E
     top_is = one_such R R.top sent.E (one_above R (sound_facts R (each rs fit (space_of kind)))) sent.one_above
 
-    recovered : recovered_of sent.E (size_in first) (big_endian (carrying pn first payload) 0 n) ≡ Is pn
+    recovered : recovered_of sent.E (size_in first) (big_endian (carrying pn first payload) 0 n) ≡ Ok pn
     recovered = rw low_bytes (trusted pn acked (size_in first) sent.E sent.length_is sent.receiver)
 
-    number_is : numbered R first (carrying pn first payload) ≡ Is pn
+    number_is : numbered R first (carrying pn first payload) ≡ Ok pn
     number_is = rw top_is recovered
 
     fresh : sent.E ≤ pn → test_of R pn ≡ Accepted
@@ -77,7 +77,7 @@ module _ (pn first : ℕ) (payload : List ℕ) where
           let x = expected c rs true first (carrying pn first payload) e in
           let k : B.kind ≡ kind = let f = x.kind in let g = sent.of_kind in cc in
           let same : x.E ≡ sent.E = one_such R x.E sent.E (rw k at x.one_above) sent.one_above in
-          let f : recovered_of sent.E (size_in first) (big_endian (carrying pn first payload) 0 n) ≡ Is B.number = rw same at x.number in
+          let f : recovered_of sent.E (size_in first) (big_endian (carrying pn first payload) 0 n) ≡ Ok B.number = rw same at x.number in
           let g = recovered in
           cc
 

@@ -18,10 +18,6 @@ use Rattle.wire.specs.Number.{big_endian}
 use Rattle.kinds.specs.declared.Kind.{Kind}
 use Rattle.numbers.specs.Numbers.{bytes_in, window_of, nearest_of, recovered_of}
 use Rattle.numbers.specs.declared.Size.{Size}
-use Rattle.numbers.specs.declared.Recovered.{Recovered}
-use Rattle.numbers.specs.declared.Recovered.TheVariants.{Is, Refused}
-use Rattle.headers.specs.declared.Header.{Header}
-use Rattle.headers.specs.declared.Header.TheVariants as Header'
 use Rattle.headers.specs.First.{header_of, size_in, reserved_of}
 use Rattle.ring.specs.Bits.{bit_at}
 use Rattle.records.specs.declared.Record.{Record}
@@ -38,6 +34,7 @@ use Rattle.spaces.proofs.Each.{each}
 use Rattle.packets.specs.declared.Begun.{Begun}
 use Rattle.packets.specs.Begin.{refused_of, closes_of, tested_of, with_recovered, in_space_of, with_kind, begin_of}
 use Rattle.arrivals.specs.Expected.{OneAbove, Numbered, Expected}
+use Rattle.std.specs.Prelude.{Option, Some, None, Result, Ok, Err}
 
 -- ---- the top of a record that fits
 
@@ -61,9 +58,9 @@ one_such R D E d e =
 -- ---- the checks one after the other
 
 -- no number is no acceptance
-no_number : (E t : ℕ) (size : Size) (a : Answer) → recovered_of E size t ≡ Refused a → a ≡ Accepted → ⊥
+no_number : (E t : ℕ) (size : Size) (a : Answer) → recovered_of E size t ≡ Err a → a ≡ Accepted → ⊥
 unfolding recovered_of
-no_number E t size a = holds (λ (r : Recovered). r ≡ Refused a → a ≡ Accepted → ⊥) (ltb (nearest_of E (window_of size) t) (2 ^ 62)) (Is _) (Refused NoSuchNumber) (λ b q e. impossible cc) (λ b q e. impossible cc)
+no_number E t size a = holds (λ (r : Result ℕ Answer). r ≡ Err a → a ≡ Accepted → ⊥) (ltb (nearest_of E (window_of size) t) (2 ^ 62)) (Ok _) (Err NoSuchNumber) (λ b q e. impossible cc) (λ b q e. impossible cc)
 
 module _ (c : Conn) (rs : Records) (first : ℕ) (s : List ℕ) (sound : (space : Space) → sound_of (record_of rs space) ≡ true) where
   abbrev Passes : Begun → Type 0
@@ -73,7 +70,7 @@ module _ (c : Conn) (rs : Records) (first : ℕ) (s : List ℕ) (sound : (space 
   n = bytes_in (size_in first)
 
   -- a number that was recovered
-  tested : (kind : Kind) (number : ℕ) → header_of first ≡ Header'.Carries kind → recovered_of (record_of rs (space_of kind)).top (size_in first) (big_endian s 0 n) ≡ Is number
+  tested : (kind : Kind) (number : ℕ) → header_of first ≡ Some kind → recovered_of (record_of rs (space_of kind)).top (size_in first) (big_endian s 0 n) ≡ Ok number
       → Passes (tested_of c (test_of (record_of rs (space_of kind)) number) kind number first n (length s))
   unfolding tested_of refused_of closes_of
   tested kind number h r =
@@ -90,21 +87,21 @@ module _ (c : Conn) (rs : Records) (first : ℕ) (s : List ℕ) (sound : (space 
         new = accepts_true _ (not-false _ t);
       })))
 
-  in_space : (kind : Kind) → header_of first ≡ Header'.Carries kind → Passes (in_space_of c (record_of rs (space_of kind)) kind first s)
+  in_space : (kind : Kind) → header_of first ≡ Some kind → Passes (in_space_of c (record_of rs (space_of kind)) kind first s)
   unfolding in_space_of refused_of
   in_space kind h =
       let R = record_of rs (space_of kind) in
       holds Passes (ltb (length s) n) _ _ (λ l e. impossible cc) (λ l. recovered (recovered_of R.top (size_in first) (big_endian s 0 n)) refl)
     where
-      recovered : (r : Recovered) → recovered_of (record_of rs (space_of kind)).top (size_in first) (big_endian s 0 n) ≡ r
+      recovered : (r : Result ℕ Answer) → recovered_of (record_of rs (space_of kind)).top (size_in first) (big_endian s 0 n) ≡ r
           → Passes (with_recovered r (λ answer. refused_of c answer (length s)) (λ number. tested_of c (test_of (record_of rs (space_of kind)) number) kind number first n (length s)))
-      recovered (Is number) q = tested kind number h q
-      recovered (Refused answer) q = λ e. absurd (no_number _ _ _ answer q e)
+      recovered (Ok number) q = tested kind number h q
+      recovered (Err answer) q = λ e. absurd (no_number _ _ _ answer q e)
 
-  kinds : (x : Header) → header_of first ≡ x → Passes (with_kind x (refused_of c NoPacket (length s)) (λ kind. in_space_of c (record_of rs (space_of kind)) kind first s))
+  kinds : (x : Option Kind) → header_of first ≡ x → Passes (with_kind x (refused_of c NoPacket (length s)) (λ kind. in_space_of c (record_of rs (space_of kind)) kind first s))
   unfolding refused_of
-  kinds (Header'.Carries kind) h = in_space kind h
-  kinds Header'.NoPacket h = λ e. impossible cc
+  kinds (Some kind) h = in_space kind h
+  kinds None h = λ e. impossible cc
 
 pub expected : Expected
 unfolding begin_of refused_of

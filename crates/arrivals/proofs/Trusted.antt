@@ -9,7 +9,6 @@ use lib.IntN.{ℤ, pos, negsuc}
 use Rattle.answers.proofs.Choice.{below_or_not}
 use Rattle.answers.proofs.Distinct.{impossible}
 use Rattle.numbers.specs.declared.Size.{Size}
-use Rattle.numbers.specs.declared.Length.TheVariants.{Is}
 use Rattle.numbers.specs.Numbers.{window_of, length_of}
 use Rattle.numbers.specs.Sound.NoLength.{BelowNone, NotBelow}
 use Rattle.numbers.proofs.Laws.{window_bounds, from_acked, from_none, enough}
@@ -17,9 +16,10 @@ use Rattle.numbers.proofs.Meaning.{even, exact}
 use Rattle.numbers.proofs.Refusals.{refuses}
 use Rattle.arrivals.specs.Trusted.{one_above, Trusted, Misled}
 use Rattle.arrivals.specs.Trusted.Receiver.{Behind, Ahead}
+use Rattle.std.specs.Prelude.{Ok}
 
 -- the number sent is at most half of 256^n above the acknowledged one
-near : (pn : ℕ) (acked : ℤ) (size : Size) → length_of pn acked ≡ Is size → pn + 1 ≤ one_above acked + window_of size / 2
+near : (pn : ℕ) (acked : ℤ) (size : Size) → length_of pn acked ≡ Ok size → pn + 1 ≤ one_above acked + window_of size / 2
 near pn (pos a) size e =
     let n = enough pn (pos a) e in
     below_or_not a pn

@@ -1,13 +1,11 @@
 -- A truncated number where a host meets it: a packet that carries the low n bytes of its number is begun with exactly that number, whatever else its receiver has recorded.
-use Rattle.std.specs.Prelude.{ℕ, ◌≤◌, ◌<◌, ◌≡◌, true, false, List, ◌++◌, length, ℤ}
+use Rattle.std.specs.Prelude.{ℕ, ◌≤◌, ◌<◌, ◌≡◌, true, false, List, ◌++◌, length, ℤ, Some, Ok}
 use Rattle.answers.specs.Answers.{accepts}
 use Rattle.answers.specs.declared.Answer.TheVariants.{Accepted}
 use Rattle.wire.specs.Number.{spelled}
 use Rattle.kinds.specs.declared.Kind.{Kind}
 use Rattle.kinds.specs.Kinds.{space_of}
-use Rattle.numbers.specs.declared.Length.TheVariants.{Is}
 use Rattle.numbers.specs.Numbers.{bytes_in, length_of}
-use Rattle.headers.specs.declared.Header.TheVariants.{Carries}
 use Rattle.headers.specs.First.{header_of, size_in, reserved_of}
 use Rattle.records.specs.Marks.{test_of}
 use Rattle.streams.specs.declared.Conn.{Conn}
@@ -20,9 +18,9 @@ use Rattle.arrivals.specs.Trusted.{Receiver}
 
 -- the number pn goes in a packet of this kind, and its receiver stands where it may
 pub record Sent (pn : ℕ) (acked : ℤ) (rs : Records) (first : ℕ) (kind : Kind) : Type 0 where
-  pub of_kind : header_of first ≡ Carries kind
+  pub of_kind : header_of first ≡ Some kind
   -- the first byte names as many bytes as are to be sent
-  pub length_is : length_of pn acked ≡ Is (size_in first)
+  pub length_is : length_of pn acked ≡ Ok (size_in first)
   -- of the record of its space the largest number alone is asked; the others may be any
   pub E : ℕ
   pub one_above : OneAbove (record_of rs (space_of kind)) E

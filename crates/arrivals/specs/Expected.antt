@@ -1,10 +1,8 @@
 -- docs/RULES.md, "Packet numbers": "with E one above the largest number recorded (0 if none)". Of every packet that passes the checks before its frames: its number is what its bytes stand for with this E of its own space's record.
-use Rattle.std.specs.Prelude.{ℕ, ◌-◌, ◌<◌, ◌≡◌, Bool, true, false, List, length}
+use Rattle.std.specs.Prelude.{ℕ, ◌-◌, ◌<◌, ◌≡◌, Bool, true, false, List, length, Some, Ok}
 use Rattle.answers.specs.declared.Answer.TheVariants.{Accepted}
 use Rattle.wire.specs.Number.{big_endian}
 use Rattle.numbers.specs.Numbers.{bytes_in, recovered_of}
-use Rattle.numbers.specs.declared.Recovered.TheVariants.{Is}
-use Rattle.headers.specs.declared.Header.TheVariants.{Carries}
 use Rattle.headers.specs.First.{header_of, size_in}
 use Rattle.records.specs.declared.Record.{Record}
 use Rattle.records.specs.Marks.{recorded, test_of}
@@ -24,13 +22,13 @@ pub record OneAbove (R : Record) (E : ℕ) : Type 0 where
 -- how a packet begins that passes: the record is that of its space
 pub record Numbered (rs : Records) (first : ℕ) (s : List ℕ) (begun : Begun) : Type 0 where
   -- "the plain first byte (it tells the kind)"
-  pub kind : header_of first ≡ Carries begun.kind
+  pub kind : header_of first ≡ Some begun.kind
   -- "The low two bits of the plain first byte, plus one, give the length of the number": its bytes are there, and the frames stand behind them
   pub there : bytes_in (size_in first) < length s
   pub behind : begun.at ≡ bytes_in (size_in first)
   pub E : ℕ
   pub one_above : OneAbove (record_of rs (space_of begun.kind)) E
-  pub number : recovered_of E (size_in first) (big_endian s 0 (bytes_in (size_in first))) ≡ Is begun.number
+  pub number : recovered_of E (size_in first) (big_endian s 0 (bytes_in (size_in first))) ≡ Ok begun.number
   -- and it is neither below the record nor in it
   pub new : test_of (record_of rs (space_of begun.kind)) begun.number ≡ Accepted
 

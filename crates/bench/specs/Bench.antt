@@ -1,13 +1,11 @@
 -- docs/RULES.md, "Bench examples": C1 to C16 as rows of a single claim about the definitions.
-use Rattle.std.specs.Prelude.{ℕ, ◌≡◌, List, [], ◌∷◌, replicate, ◌++◌}
+use Rattle.std.specs.Prelude.{ℕ, ◌≡◌, List, [], ◌∷◌, replicate, ◌++◌, Some, Ok}
 use Rattle.kinds.specs.declared.Role.TheVariants.{Server}
 use Rattle.answers.specs.Answers.{number_of}
 use Rattle.wire.specs.Number.{number_at}
-use Rattle.wire.specs.declared.Number.TheVariants.{Is}
 use Rattle.kinds.specs.declared.Kind.TheVariants.{OneRtt}
 use Rattle.numbers.specs.Numbers.{recovered_of}
 use Rattle.numbers.specs.declared.Size.TheVariants.{Two}
-use Rattle.numbers.specs.declared.Recovered.TheVariants as Recovered'
 use Rattle.records.specs.declared.Record.{Record}
 use Rattle.records.specs.Marks.{none_of}
 use Rattle.records.specs.Ring.{taken_of}
@@ -47,13 +45,13 @@ pub record Bench : Type 0 where
   pub small_two : taken bench (stream 14 0 16 ∷ stream 14 16 1 ∷ []) ≡ (0, 16) ∷ (3, 16) ∷ []
   pub small_four : taken bench (stream 14 0 0 ∷ stream 18 0 0 ∷ []) ≡ (0, 0) ∷ (4, 0) ∷ []
   -- "C1 25 reads 37. C2 4025 reads 37. C3 7bbd reads 15,293. C4 9d7f3e7d reads 494,878,333. C5 c2197c5eff14e88c reads 151,288,809,941,952,652"
-  pub c1 : number_at (0x25 ∷ []) 0 ≡ Is 37 1
-  pub c2 : number_at (0x40 ∷ 0x25 ∷ []) 0 ≡ Is 37 2
-  pub c3 : number_at (0x7b ∷ 0xbd ∷ []) 0 ≡ Is 15293 2
-  pub c4 : number_at (0x9d ∷ 0x7f ∷ 0x3e ∷ 0x7d ∷ []) 0 ≡ Is 494878333 4
-  pub c5 : number_at (0xc2 ∷ 0x19 ∷ 0x7c ∷ 0x5e ∷ 0xff ∷ 0x14 ∷ 0xe8 ∷ 0x8c ∷ []) 0 ≡ Is 151288809941952652 8
+  pub c1 : number_at (0x25 ∷ []) 0 ≡ Some (37, 1)
+  pub c2 : number_at (0x40 ∷ 0x25 ∷ []) 0 ≡ Some (37, 2)
+  pub c3 : number_at (0x7b ∷ 0xbd ∷ []) 0 ≡ Some (15293, 2)
+  pub c4 : number_at (0x9d ∷ 0x7f ∷ 0x3e ∷ 0x7d ∷ []) 0 ≡ Some (494878333, 4)
+  pub c5 : number_at (0xc2 ∷ 0x19 ∷ 0x7c ∷ 0x5e ∷ 0xff ∷ 0x14 ∷ 0xe8 ∷ 0x8c ∷ []) 0 ≡ Some (151288809941952652, 8)
   -- "C6 largest 0xa82f30ea, two bytes 0x9b32: 0xa82f9b32 (A.3)"
-  pub c6 : recovered_of 0xa82f30eb Two 0x9b32 ≡ Recovered'.Is 0xa82f9b32
+  pub c6 : recovered_of 0xa82f30eb Two 0x9b32 ≡ Ok 0xa82f9b32
   -- "C7 stream 0 to end 16: total 16; to 17: 3"
   pub c7 : taken bench (stream 0 0 16 ∷ stream 0 16 1 ∷ []) ≡ (0, 16) ∷ (3, 16) ∷ []
   -- "C8 stream 12 accepted, 16: 4"

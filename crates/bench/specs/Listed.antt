@@ -13,7 +13,7 @@ use Rattle.pages.specs.declared.Page.{Page}
 
 -- a page before its first row
 abbrev pub first : Page
-first = record { conn = small_of.opened.conn; table = small_of.table; at = 0; used = 0; full = false }
+first = record { conn = small_of.told.conn; table = small_of.table; at = 0; used = 0; full = false }
 
 -- the first page of a payload's rows, on a page of n bytes
 abbrev pub paged : ℕ → List ℕ → Page × List ℕ

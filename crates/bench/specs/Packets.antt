@@ -1,5 +1,5 @@
 -- The rules of a packet before its frames at their borders: they hold the definitions to docs/RULES.md. Beside each, its sentence.
-use Rattle.std.specs.Prelude.{ℕ, ◌≡◌, true, false, List, [], ◌∷◌, map}
+use Rattle.std.specs.Prelude.{ℕ, ◌≡◌, true, false, List, [], ◌∷◌, map, Some, None}
 use Rattle.kinds.specs.declared.Role.TheVariants.{Server}
 use Rattle.answers.specs.Answers.{number_of}
 use Rattle.kinds.specs.declared.Kind.TheVariants.{Initial, Handshake, ZeroRtt, OneRtt}
@@ -10,7 +10,6 @@ use Rattle.records.specs.Ring.{taken_of}
 use Rattle.streams.specs.declared.Mark.TheVariants.{Open}
 use Rattle.opening.specs.Opening.{opened_conn}
 use Rattle.streams.specs.Small.{small}
-use Rattle.headers.specs.declared.Header.TheVariants.{Carries, NoPacket}
 use Rattle.headers.specs.First.{header_of, size_in, reserved_of}
 use Rattle.headers.specs.Said.{header_says}
 use Rattle.packets.specs.Begin.{in_space_of}
@@ -26,9 +25,9 @@ begun l = map (λ p. number_of (in_space_of (opened_conn Server small Open) only
 pub record Packets : Type 0 where
   -- "the plain first byte (it tells the kind)": long with bits 0x30, short; Retry and bit 0x40 clear are none
   pub kinds : map header_of (0xc0 ∷ 0xd0 ∷ 0xe0 ∷ 0xf0 ∷ 0x80 ∷ 0x40 ∷ 0x7f ∷ 0x00 ∷ [])
-      ≡ Carries Initial ∷ Carries ZeroRtt ∷ Carries Handshake ∷ NoPacket ∷ NoPacket ∷ Carries OneRtt ∷ Carries OneRtt ∷ NoPacket ∷ []
+      ≡ Some Initial ∷ Some ZeroRtt ∷ Some Handshake ∷ None ∷ None ∷ Some OneRtt ∷ Some OneRtt ∷ None ∷ []
   -- whatever the bits below them; and the answer's number: "Retry, bit 0x40 clear [..] 110"
-  pub kinds_below : map header_of (0xcf ∷ 0xdf ∷ 0xef ∷ 0xff ∷ 0xbf ∷ 0x3f ∷ []) ≡ Carries Initial ∷ Carries ZeroRtt ∷ Carries Handshake ∷ NoPacket ∷ NoPacket ∷ NoPacket ∷ []
+  pub kinds_below : map header_of (0xcf ∷ 0xdf ∷ 0xef ∷ 0xff ∷ 0xbf ∷ 0x3f ∷ []) ≡ Some Initial ∷ Some ZeroRtt ∷ Some Handshake ∷ None ∷ None ∷ None ∷ []
   pub kinds_said : map (λ (first : ℕ). (header_says (header_of first)).number) (0x40 ∷ 0xc0 ∷ 0xf0 ∷ 0x80 ∷ 0x00 ∷ []) ≡ 0 ∷ 0 ∷ 110 ∷ 110 ∷ 110 ∷ []
   -- "The low two bits of the plain first byte, plus one, give the length of the number"
   pub sizes : map size_in (0x40 ∷ 0x41 ∷ 0x42 ∷ 0x43 ∷ 0xfc ∷ []) ≡ One ∷ Two ∷ Three ∷ Four ∷ One ∷ []

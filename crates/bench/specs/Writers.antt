@@ -1,9 +1,7 @@
 -- docs/RULES.md, "Writing": "Writers check 120, 112, 109, 108 where these apply", "Writing uses the shortest form": each pair of neighbours by an input that both would refuse, the output whole at exit, and one frame of each type written to its bytes.
-use Rattle.std.specs.Prelude.{ℕ, ◌+◌, ◌-◌, ◌^◌, ◌≡◌, true, false, List, [], ◌∷◌, ◌++◌, map, replicate}
+use Rattle.std.specs.Prelude.{ℕ, ◌+◌, ◌-◌, ◌^◌, ◌≡◌, true, false, List, [], ◌∷◌, ◌++◌, map, replicate, Result, Ok, Err}
 use Rattle.answers.specs.declared.Answer.TheVariants.{NoRoom, Unwritable, NothingToAcknowledge, DoesNotFit}
 use Rattle.wire.specs.Writing.{Draft, Bytes, Never, writes}
-use Rattle.wire.specs.declared.Wrote.{Wrote}
-use Rattle.wire.specs.declared.Wrote.TheVariants.{To, Refused}
 use Rattle.row.specs.Row.{row_draft}
 use Rattle.frames.specs.declared.Frame.{Frame}
 use Rattle.frames.specs.declared.Frame.TheVariants.{Padding, Ping, Ack, AckEcn, ResetStream, StopSending, Crypto, NewToken, Stream, MaxData, MaxStreamData, MaxStreams, DataBlocked, StreamDataBlocked, StreamsBlocked, NewConnectionId, RetireConnectionId, PathChallenge, PathResponse, ConnectionClose, ApplicationClose, HandshakeDone}
@@ -12,6 +10,7 @@ use Rattle.sizes.specs.Spelled.{frame_draft}
 use Rattle.records.specs.declared.Record.{Record}
 use Rattle.records.specs.Marks.{none_of}
 use Rattle.acks.specs.Ack.{ack_of, ack_draft}
+use Rattle.answers.specs.declared.Answer.{Answer}
 
 -- ---- acknowledgements
 
@@ -29,19 +28,19 @@ sevens n = replicate n 7
 
 pub record AckWritten : Type 0 where
   -- "Recorded 0, 1, 3, delay 0: 02 03 00 01 00 00 01": before the place and past the end the output stays
-  pub bytes : writes (ack_draft three 0) (sevens 11) 2 ≡ (To 9, 7 ∷ 7 ∷ 0x02 ∷ 0x03 ∷ 0x00 ∷ 0x01 ∷ 0x00 ∷ 0x00 ∷ 0x01 ∷ 7 ∷ 7 ∷ [])
+  pub bytes : writes (ack_draft three 0) (sevens 11) 2 ≡ (Ok 9, 7 ∷ 7 ∷ 0x02 ∷ 0x03 ∷ 0x00 ∷ 0x01 ∷ 0x00 ∷ 0x00 ∷ 0x01 ∷ 7 ∷ 7 ∷ [])
   -- "with the delay the caller names"
   pub delayed : ack_draft three 300 ≡ Bytes (0x02 ∷ 0x03 ∷ 0x41 ∷ 0x2c ∷ 0x01 ∷ 0x00 ∷ 0x00 ∷ 0x01 ∷ [])
   -- "output shorter than what is to be written": it may be just as long
-  pub room : writes (ack_draft three 0) (sevens 7) 0 ≡ (To 7, 0x02 ∷ 0x03 ∷ 0x00 ∷ 0x01 ∷ 0x00 ∷ 0x00 ∷ 0x01 ∷ [])
-  pub no_room : writes (ack_draft three 0) (sevens 6) 0 ≡ (Refused NoRoom, sevens 6)
-  pub no_room_there : map (λ (at : ℕ). writes (ack_draft three 0) (sevens 7) at) (1 ∷ 8 ∷ (2 ^ 64 - 1) ∷ []) ≡ replicate 3 (Refused NoRoom, sevens 7)
+  pub room : writes (ack_draft three 0) (sevens 7) 0 ≡ (Ok 7, 0x02 ∷ 0x03 ∷ 0x00 ∷ 0x01 ∷ 0x00 ∷ 0x00 ∷ 0x01 ∷ [])
+  pub no_room : writes (ack_draft three 0) (sevens 6) 0 ≡ (Err NoRoom, sevens 6)
+  pub no_room_there : map (λ (at : ℕ). writes (ack_draft three 0) (sevens 7) at) (1 ∷ 8 ∷ (2 ^ 64 - 1) ∷ []) ≡ replicate 3 (Err NoRoom, sevens 7)
   -- 120 before 112, 112 before 109, 109 before 108: a stray mark where nothing is recorded, nothing recorded, and a delay above 2^62-1, into an output with no room
-  pub unfit_first : writes (ack_draft (record_by 1 0 0) (2 ^ 62)) (7 ∷ []) 0 ≡ (Refused DoesNotFit, 7 ∷ [])
-  pub unfit : map (λ (R : Record). writes (ack_draft R 0) (7 ∷ []) 0) (record_by 1 0 2 ∷ record_by 1 0 (2 ^ 62 + 1) ∷ []) ≡ replicate 2 (Refused DoesNotFit, 7 ∷ [])
-  pub nothing_then : writes (ack_draft none_of (2 ^ 62)) (7 ∷ []) 0 ≡ (Refused NothingToAcknowledge, 7 ∷ [])
-  pub unwritable_then : writes (ack_draft three (2 ^ 62)) (7 ∷ []) 0 ≡ (Refused Unwritable, 7 ∷ [])
-  pub no_room_last : writes (ack_draft three (2 ^ 62 - 1)) (7 ∷ []) 0 ≡ (Refused NoRoom, 7 ∷ [])
+  pub unfit_first : writes (ack_draft (record_by 1 0 0) (2 ^ 62)) (7 ∷ []) 0 ≡ (Err DoesNotFit, 7 ∷ [])
+  pub unfit : map (λ (R : Record). writes (ack_draft R 0) (7 ∷ []) 0) (record_by 1 0 2 ∷ record_by 1 0 (2 ^ 62 + 1) ∷ []) ≡ replicate 2 (Err DoesNotFit, 7 ∷ [])
+  pub nothing_then : writes (ack_draft none_of (2 ^ 62)) (7 ∷ []) 0 ≡ (Err NothingToAcknowledge, 7 ∷ [])
+  pub unwritable_then : writes (ack_draft three (2 ^ 62)) (7 ∷ []) 0 ≡ (Err Unwritable, 7 ∷ [])
+  pub no_room_last : writes (ack_draft three (2 ^ 62 - 1)) (7 ∷ []) 0 ≡ (Err NoRoom, 7 ∷ [])
   -- "at most 32 runs, from the highest number down [..] lower runs left off only after the 32nd": the even numbers to 62 are 32 runs; with 64 there are 33, and 0 is left off
   pub runs_32 : ack_draft (record_by 0x5555555555555555 0 63) 0 ≡ Bytes (0x02 ∷ 62 ∷ 0 ∷ 31 ∷ 0 ∷ replicate 62 0)
   pub runs_33 : ack_draft (record_by 0x5555555555555555 1 65) 0 ≡ Bytes (0x02 ∷ 0x40 ∷ 0x40 ∷ 0 ∷ 31 ∷ 0 ∷ replicate 62 0)
@@ -57,7 +56,7 @@ abbrev pub draft : List ℕ → Frame → Draft
 draft s f = frame_draft (contents s f)
 
 -- .. into an output, at a place
-abbrev pub wrote : List ℕ → Frame → List ℕ → ℕ → Wrote × List ℕ
+abbrev pub wrote : List ℕ → Frame → List ℕ → ℕ → Result ℕ Answer × List ℕ
 wrote s f out at = writes (draft s f) out at
 
 -- three bytes, and nine
@@ -73,14 +72,14 @@ identity = abc ++ replicate 16 0x51
 
 pub record FramesWritten : Type 0 where
   -- "a value above 2^62-1" anywhere in a row is 109, before 108; then the room
-  pub row_order : map (λ (vs : List ℕ). writes (row_draft vs) [] 0) ((2 ^ 62 ∷ []) ∷ (1 ∷ 2 ^ 62 ∷ []) ∷ (1 ∷ (2 ^ 62 - 1) ∷ []) ∷ []) ≡ (Refused Unwritable, []) ∷ (Refused Unwritable, []) ∷ (Refused NoRoom, []) ∷ []
-  pub row_bytes : writes (row_draft (1 ∷ 300 ∷ 63 ∷ [])) (sevens 6) 1 ≡ (To 5, 7 ∷ 1 ∷ 0x41 ∷ 0x2c ∷ 0x3f ∷ 7 ∷ [])
-  pub row_room : map (λ (n : ℕ). writes (row_draft (1 ∷ 300 ∷ 63 ∷ [])) (sevens n) 1) (5 ∷ 4 ∷ []) ≡ (To 5, 7 ∷ 1 ∷ 0x41 ∷ 0x2c ∷ 0x3f ∷ []) ∷ (Refused NoRoom, sevens 4) ∷ []
+  pub row_order : map (λ (vs : List ℕ). writes (row_draft vs) [] 0) ((2 ^ 62 ∷ []) ∷ (1 ∷ 2 ^ 62 ∷ []) ∷ (1 ∷ (2 ^ 62 - 1) ∷ []) ∷ []) ≡ (Err Unwritable, []) ∷ (Err Unwritable, []) ∷ (Err NoRoom, []) ∷ []
+  pub row_bytes : writes (row_draft (1 ∷ 300 ∷ 63 ∷ [])) (sevens 6) 1 ≡ (Ok 5, 7 ∷ 1 ∷ 0x41 ∷ 0x2c ∷ 0x3f ∷ 7 ∷ [])
+  pub row_room : map (λ (n : ℕ). writes (row_draft (1 ∷ 300 ∷ 63 ∷ [])) (sevens n) 1) (5 ∷ 4 ∷ []) ≡ (Ok 5, 7 ∷ 1 ∷ 0x41 ∷ 0x2c ∷ 0x3f ∷ []) ∷ (Err NoRoom, sevens 4) ∷ []
   -- "STREAM is written with LEN set, OFF exactly when the offset is not 0": offset 0 and above, FIN or not
-  pub stream_0a : wrote abc (Stream 4 0 false 0 3) (sevens 8) 1 ≡ (To 7, 7 ∷ 0x0a ∷ 4 ∷ 3 ∷ 0x61 ∷ 0x62 ∷ 0x63 ∷ 7 ∷ [])
-  pub stream_0b : wrote abc (Stream 300 0 true 1 2) (sevens 8) 1 ≡ (To 7, 7 ∷ 0x0b ∷ 0x41 ∷ 0x2c ∷ 2 ∷ 0x62 ∷ 0x63 ∷ 7 ∷ [])
-  pub stream_0e : wrote abc (Stream 4 1 false 0 2) (sevens 8) 1 ≡ (To 7, 7 ∷ 0x0e ∷ 4 ∷ 1 ∷ 2 ∷ 0x61 ∷ 0x62 ∷ 7 ∷ [])
-  pub stream_0f : wrote abc (Stream 4 300 true 2 1) (sevens 8) 1 ≡ (To 7, 7 ∷ 0x0f ∷ 4 ∷ 0x41 ∷ 0x2c ∷ 1 ∷ 0x63 ∷ 7 ∷ [])
+  pub stream_0a : wrote abc (Stream 4 0 false 0 3) (sevens 8) 1 ≡ (Ok 7, 7 ∷ 0x0a ∷ 4 ∷ 3 ∷ 0x61 ∷ 0x62 ∷ 0x63 ∷ 7 ∷ [])
+  pub stream_0b : wrote abc (Stream 300 0 true 1 2) (sevens 8) 1 ≡ (Ok 7, 7 ∷ 0x0b ∷ 0x41 ∷ 0x2c ∷ 2 ∷ 0x62 ∷ 0x63 ∷ 7 ∷ [])
+  pub stream_0e : wrote abc (Stream 4 1 false 0 2) (sevens 8) 1 ≡ (Ok 7, 7 ∷ 0x0e ∷ 4 ∷ 1 ∷ 2 ∷ 0x61 ∷ 0x62 ∷ 7 ∷ [])
+  pub stream_0f : wrote abc (Stream 4 300 true 2 1) (sevens 8) 1 ≡ (Ok 7, 7 ∷ 0x0f ∷ 4 ∷ 0x41 ∷ 0x2c ∷ 1 ∷ 0x63 ∷ 7 ∷ [])
   pub stream_empty : map (draft []) (Stream 4 0 false 0 0 ∷ Stream 4 5 true 0 0 ∷ []) ≡ Bytes (0x0a ∷ 4 ∷ 0 ∷ []) ∷ Bytes (0x0f ∷ 4 ∷ 5 ∷ 0 ∷ []) ∷ []
   -- one frame of each other type: those without bytes of their own ..
   pub plain : map (draft []) (Padding ∷ Ping ∷ HandshakeDone ∷ ResetStream 4 300 9 ∷ StopSending 8 300 ∷ RetireConnectionId 300 ∷ [])
@@ -121,5 +120,5 @@ pub record FramesRefused : Type 0 where
   -- bytes that are not in the slice
   pub outside : map (draft abc) (Crypto 0 0 3 ∷ Crypto 0 1 3 ∷ Stream 4 0 false 4 0 ∷ PathChallenge 0 ∷ []) ≡ Bytes (0x06 ∷ 0 ∷ 3 ∷ 0x61 ∷ 0x62 ∷ 0x63 ∷ []) ∷ never ∷ never ∷ never ∷ []
   -- 109 before 108; "output untouched" by both; an output may be just as long
-  pub unwritable_first : map (λ (f : Frame). wrote abc f (7 ∷ []) 1) (NewToken 0 0 ∷ MaxData (2 ^ 62) ∷ Crypto 0 1 3 ∷ []) ≡ replicate 3 (Refused Unwritable, 7 ∷ [])
-  pub frame_room : map (λ (n : ℕ). wrote abc (NewToken 0 1) (sevens n) 1) (3 ∷ 4 ∷ 5 ∷ []) ≡ (Refused NoRoom, sevens 3) ∷ (To 4, 7 ∷ 0x07 ∷ 1 ∷ 0x61 ∷ []) ∷ (To 4, 7 ∷ 0x07 ∷ 1 ∷ 0x61 ∷ 7 ∷ []) ∷ []
+  pub unwritable_first : map (λ (f : Frame). wrote abc f (7 ∷ []) 1) (NewToken 0 0 ∷ MaxData (2 ^ 62) ∷ Crypto 0 1 3 ∷ []) ≡ replicate 3 (Err Unwritable, 7 ∷ [])
+  pub frame_room : map (λ (n : ℕ). wrote abc (NewToken 0 1) (sevens n) 1) (3 ∷ 4 ∷ 5 ∷ []) ≡ (Err NoRoom, sevens 3) ∷ (Ok 4, 7 ∷ 0x07 ∷ 1 ∷ 0x61 ∷ []) ∷ (Ok 4, 7 ∷ 0x07 ∷ 1 ∷ 0x61 ∷ 7 ∷ []) ∷ []

@@ -1,14 +1,13 @@
 -- The pieces of a frame: the numbers before and after its body, bytes and their length in front of them (a length that has no form there is 109), and the place after a piece.
-use Rattle.std.specs.Prelude.{ℕ, ◌+◌, ◌-◌, ◌^◌, List, [], ◌∷◌, length, take, ltb}
+use Rattle.std.specs.Prelude.{ℕ, ◌+◌, ◌-◌, ◌^◌, List, [], ◌∷◌, length, take, ltb, Result, Ok, Err}
 use Rattle.answers.specs.Choice.{◌⇒◌∣◌}
 use Rattle.answers.specs.declared.Answer.TheVariants.{Unwritable}
 use Rattle.wire.specs.Writing.{Draft, Bytes, Never}
 use Rattle.layouts.specs.Layout.{layout_of}
 use Rattle.fields.specs.declared.Parts.{Parts}
-use Rattle.wire.specs.declared.Wrote.{Wrote}
-use Rattle.wire.specs.declared.Wrote.TheVariants.{To, Refused}
 use Rattle.sizes.specs.Spelled.{body_bytes}
 use Rattle.layouts.specs.declared.Tail.TheVariants.{Counted, Identity}
+use Rattle.answers.specs.declared.Answer.{Answer}
 
 -- a frame's type and the numbers that its layout has before its body
 abbrev pub front_of : Parts → List ℕ
@@ -31,6 +30,6 @@ identity_draft id token =
     ∣ Bytes (body_bytes Identity (length id) id token)
 
 -- the place after what was written, 0 after a refusal
-unfoldable pub place_after : Wrote → ℕ
-place_after (To next) = next
-place_after (Refused answer) = 0
+unfoldable pub place_after : Result ℕ Answer → ℕ
+place_after (Ok next) = next
+place_after (Err answer) = 0

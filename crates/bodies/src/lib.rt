@@ -9,84 +9,65 @@ ghost use Rattle.bodies.specs.Bodies.{place_after, front_of, back_of, counted_dr
 use answers::Answer;
 use fields::Parts;
 use text::put;
-use wire::Wrote;
 
 // The place after what was written, 0 after a refusal.
-pub fn past(wrote: Wrote) -> usize
+#[tactic(auto, unfolding(crate::specs::Bodies::place_after))]
+pub fn past(wrote: Result<usize, Answer>) -> usize
     ensures { result ≡ place_after wrote }
 {
-    match wrote {
-        Wrote::To { next } => next,
-        Wrote::Refused { answer: _ } => 0,
-    }
+    wrote.unwrap_or(0)
 }
 
 // Writes a frame's type and the numbers before its body. A refusal leaves the output untouched.
-pub fn front(out: &mut [u8], at: usize, p: Parts) -> Wrote
+#[tactic(auto, using(sizes::proofs::Bounds::at_most_four))]
+pub fn front(out: &mut [u8], at: usize, p: Parts) -> Result<usize, Answer>
     ensures { (result, out.new) ≡ writes (row_draft (front_of p)) out.old at }
 {
-    let l = layouts::table::find(p.ty);
     let numbers = [p.ty, p.a, p.b, p.c, p.d];
-    let n = l.numbers as usize + 1;
+    let l = layouts::table::find(p.ty);
+    let n = usize::from(l.numbers) + 1;
     row::write(out, at, &numbers[..n])
 }
 
 // Writes the numbers after a frame's body. A refusal leaves the output untouched.
-pub fn back(out: &mut [u8], at: usize, p: Parts) -> Wrote
+#[tactic(auto, using(sizes::proofs::Bounds::at_most_four))]
+pub fn back(out: &mut [u8], at: usize, p: Parts) -> Result<usize, Answer>
     ensures { (result, out.new) ≡ writes (row_draft (back_of p)) out.old at }
 {
-    let l = layouts::table::find(p.ty);
     let numbers = [p.x, p.y, p.z, 0];
-    let n = l.after as usize;
+    let l = layouts::table::find(p.ty);
+    let n = usize::from(l.after);
     row::write(out, at, &numbers[..n])
 }
 
 // Writes bytes after their length, a number on the wire. A refusal leaves the output untouched.
-pub fn counted(out: &mut [u8], at: usize, body: &[u8]) -> Wrote
+#[tactic(auto, using(wire::proofs::Exit::size_bounds), unfolding(crate::specs::Bodies::counted_draft, wire::specs::Writing::writes))]
+pub fn counted(out: &mut [u8], at: usize, body: &[u8]) -> Result<usize, Answer>
     ensures { (result, out.new) ≡ writes (counted_draft body.now) out.old at }
 {
     let len = body.len() as u64;
     if wire::MOST < len {
-        return Wrote::Refused {
-            answer: Answer::Unwritable,
-        };
+        return Err(Answer::Unwritable);
     }
-    if out.len() < at {
-        return Wrote::Refused {
-            answer: Answer::NoRoom,
-        };
+    if !put::fits(out.len(), at, wire::size(len) + body.len()) {
+        return Err(Answer::NoRoom);
     }
-    let front = wire::size(len);
-    if out.len() - at < front + body.len() {
-        return Wrote::Refused {
-            answer: Answer::NoRoom,
-        };
-    }
-    wire::write(out, at, len);
-    put::bytes(out, at + front, body)
+    let next = wire::write(out, at, len)?;
+    put::bytes(out, next, body)
 }
 
 // Writes a connection ID after its length, which has one byte, and its token. A refusal leaves the output untouched.
-pub fn identity(out: &mut [u8], at: usize, id: &[u8], token: &[u8]) -> Wrote
+#[tactic(auto, unfolding(crate::specs::Bodies::identity_draft, wire::specs::Writing::writes))]
+pub fn identity(out: &mut [u8], at: usize, id: &[u8], token: &[u8]) -> Result<usize, Answer>
     ensures { (result, out.new) ≡ writes (identity_draft id.now token.now) out.old at }
 {
-    let len = id.len();
-    if 255 < len {
-        return Wrote::Refused {
-            answer: Answer::Unwritable,
-        };
+    let Ok(len) = u8::try_from(id.len()) else {
+        return Err(Answer::Unwritable);
+    };
+    if !put::fits(out.len(), at, 1 + id.len() + token.len()) {
+        return Err(Answer::NoRoom);
     }
-    if out.len() < at {
-        return Wrote::Refused {
-            answer: Answer::NoRoom,
-        };
-    }
-    if out.len() - at < 1 + len + token.len() {
-        return Wrote::Refused {
-            answer: Answer::NoRoom,
-        };
-    }
-    out[at] = len as u8;
-    put::bytes(out, at + 1, id);
-    put::bytes(out, at + 1 + len, token)
+    out[at] = len;
+    let next = put::bytes(out, at + 1, id)?;
+    put::bytes(out, next, token)
 }

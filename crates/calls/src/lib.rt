@@ -3,12 +3,12 @@
 #![tactic(auto)]
 
 ghost use Rattle.std.specs.Prelude.{◌≡◌};
+ghost use Rattle.answers.specs.Outcome.{outcome_of};
 ghost use Rattle.halves.specs.Stream.{place_of};
-ghost use Rattle.entries.specs.Entry.{is_known};
 ghost use Rattle.calls.specs.Calls.{seated_call, raise_of, reply_of, stream_in};
 
 use answers::Answer;
-use entries::{Entry, Final};
+use entries::Entry;
 use kinds::Role;
 use streams::Conn;
 
@@ -47,85 +47,70 @@ pub fn place(role: Role, call: Call) -> usize
 {
     match call {
         Call::RaiseStream { id, new: _ } => halves::place_of(halves::seated(role, id)),
-        Call::RaiseCredit { new: _ } => halves::place_of(0),
-        Call::RaiseCount { ty: _, new: _ } => halves::place_of(0),
-        Call::OpenNext { ty: _ } => halves::place_of(0),
+        _ => halves::place_of(0),
     }
 }
 
 // 103 above the ceiling, 102 not above the present value.
-fn raise(present: u64, new: u64, ceiling: u64) -> Answer
-    ensures { result ≡ raise_of present new ceiling }
+#[tactic(auto, unfolding(crate::specs::Calls::raise_of))]
+fn raise(present: u64, new: u64, ceiling: u64) -> Result<(), Answer>
+    ensures { result ≡ outcome_of (raise_of present new ceiling) }
 {
     if ceiling < new {
-        return Answer::AboveCeiling;
+        return Err(Answer::AboveCeiling);
     }
     if new <= present {
-        return Answer::NotAbove;
+        return Err(Answer::NotAbove);
     }
-    Answer::Accepted
+    Ok(())
 }
 
-fn is_known(known: Final) -> bool
-    ensures { result ≡ is_known known }
-{
-    match known {
-        Final::Unknown => false,
-        Final::Known { size: _ } => true,
-    }
-}
-
-// The answer to a raise of a stream's credit.
-fn raise_stream(c: Conn, e: Entry, id: u64, new: u64) -> Answer
-    ensures { result ≡ reply_of c e (Call.RaiseStream id new) }
+// Whether a stream's credit may be raised.
+#[tactic(auto, unfolding(crate::specs::Calls::reply_of))]
+fn raise_stream(c: Conn, e: Entry, id: u64, new: u64) -> Result<(), Answer>
+    ensures { result ≡ outcome_of (reply_of c e (Call.RaiseStream id new)) }
 {
     let s = halves::named(id);
-    if 2 < s.half {
-        return Answer::NotServed;
+    if 2 < s.half || c.opened_of(id) <= s.ordinal {
+        return Err(Answer::NotServed);
     }
-    if c.opened_of(id) <= s.ordinal {
-        return Answer::NotServed;
-    }
-    if is_known(e.known()) {
-        return Answer::SizeKnown;
+    if e.known().is_some() {
+        return Err(Answer::SizeKnown);
     }
     raise(e.credit, new, Conn::MOST_CREDIT)
 }
 
-// The answer to a raise of a stream count: only the peer's halves have one that we advertise.
-fn raise_count(c: Conn, e: Entry, ty: u64, new: u64) -> Answer
-    ensures { result ≡ reply_of c e (Call.RaiseCount ty new) }
+// Whether a stream count may be: only the peer's halves have one that we advertise.
+#[tactic(auto, unfolding(crate::specs::Calls::reply_of))]
+fn raise_count(c: Conn, e: Entry, ty: u64, new: u64) -> Result<(), Answer>
+    ensures { result ≡ outcome_of (reply_of c e (Call.RaiseCount ty new)) }
 {
-    if 3 < ty {
-        return Answer::NotServed;
-    }
     let s = halves::named(ty);
-    if !halves::is_peers(s.half) {
-        return Answer::NotServed;
+    if 3 < ty || !halves::is_peers(s.half) {
+        return Err(Answer::NotServed);
     }
     raise(c.count_of(ty), new, Conn::MOST_STREAMS)
 }
 
-// The answer to the opening of the next stream: only our own halves have one.
-fn open_next(c: Conn, e: Entry, ty: u64) -> Answer
-    ensures { result ≡ reply_of c e (Call.OpenNext ty) }
+// Whether the next stream may be opened: only our own halves have one.
+#[tactic(auto, unfolding(crate::specs::Calls::reply_of))]
+fn open_next(c: Conn, e: Entry, ty: u64) -> Result<(), Answer>
+    ensures { result ≡ outcome_of (reply_of c e (Call.OpenNext ty)) }
 {
-    if 3 < ty {
-        return Answer::NotServed;
-    }
     let s = halves::named(ty);
-    if halves::is_peers(s.half) {
-        return Answer::NotServed;
+    if 3 < ty || halves::is_peers(s.half) {
+        return Err(Answer::NotServed);
     }
     if Conn::MOST_STREAMS <= c.opened_of(ty) {
-        return Answer::AboveCeiling;
+        return Err(Answer::AboveCeiling);
     }
-    Answer::Accepted
+    Ok(())
 }
 
-// The answer to a call on an open connection, its stream or type as at a server: 104, then 105, 103, 102.
-pub fn reply(c: Conn, e: Entry, call: Call) -> Answer
-    ensures { result ≡ reply_of c e call }
+// Whether an open connection takes a call, its stream or type as at a server: 104, then 105, 103, 102.
+#[tactic(auto, unfolding(crate::specs::Calls::reply_of))]
+pub fn reply(c: Conn, e: Entry, call: Call) -> Result<(), Answer>
+    ensures { result ≡ outcome_of (reply_of c e call) }
 {
     match call {
         Call::RaiseCredit { new } => raise(c.limits.credit, new, Conn::MOST_CREDIT),

@@ -1,13 +1,12 @@
 -- Whether a frame fits what is lent, as a test and as facts.
 -- Assumes nothing.
-use Prim.Native.Nat.{ℕ, ◌+◌, ◌-◌, ◌^◌, ◌≤◌, ◌<◌}
-use mathlib.Core.Path.{◌≡◌, refl, sym}
-use mathlib.Core.Bool.{Bool, true, false, and-eq-true_iff}
+use Prim.Native.Nat.{ℕ, ◌+◌, ◌^◌}
+use mathlib.Core.Path.{◌≡◌}
+use mathlib.Core.Bool.{true, and-eq-true_iff}
 use mathlib.Core.List.{List}
-use native.Mathlib.Omega.{arith}
 use lib.ListN.{length}
 use lib.Dec.{ltb, leb, eqb}
-use borrow.Author.Tests.{lt-ltb, le-leb, eq-eqb, leb-true, leb-false, ltb-true, eqb-true}
+use borrow.Author.Tests.{lt-ltb, le-leb, eq-eqb, leb-true, ltb-true, eqb-true}
 use Rattle.clashes.specs.Held.{room_for}
 use Rattle.clashes.specs.Parts.{Room}
 
@@ -32,19 +31,3 @@ module _ (ring marks : List ℕ) (read held : ℕ) (s : List ℕ) (from len offs
         there = leb-true _ _ f.0;
         low = ltb-true _ _ f.1;
       }
-
-  pub room_false : (Room ring marks read held s from len offset → ⊥) → false ≡ room_for ring marks read held s from len offset
-  room_false f = go (room_for ring marks read held s from len offset) refl
-    where
-      go : (b : Bool) → room_for ring marks read held s from len offset ≡ b → false ≡ b
-      go true e = absurd (f (room_told e))
-      go false e = refl
-
-  -- the last test decides where the others hold
-  pub room_is : length ring ≡ 4096 → length marks ≡ 64 → held ≤ read + 4096 → offset + len ≤ read + 4096 → read < 2 ^ 62 → len ≤ length s
-      → leb from (length s - len) ≡ room_for ring marks read held s from len offset
-  room_is a b c d f g = go (leb from (length s - len)) refl
-    where
-      go : (x : Bool) → leb from (length s - len) ≡ x → x ≡ room_for ring marks read held s from len offset
-      go true e = sym (room_true (record { bytes = a; words = b; reach = c; fits = d; there = omega (arith, leb-true from (length s - len) e); low = f }))
-      go false e = room_false (λ r. omega (arith, leb-false from (length s - len) e, r.there))

@@ -10,15 +10,12 @@ use lib.Seq.{sets, sets-eq, length-sets, take-append_seam}
 use Rattle.answers.proofs.Choice.{holds}
 use Rattle.answers.specs.declared.Answer.{Answer}
 use Rattle.wire.specs.Writing.{Bytes, writes, Written}
-use Rattle.wire.specs.declared.Wrote.{Wrote}
-use Rattle.wire.specs.declared.Wrote.TheVariants.{To, Refused}
 use Rattle.wire.proofs.Standing.{sets_append}
 use Rattle.wire.proofs.Writing.{all_written, bytes_written, bytes_unrefused}
 use Rattle.text.specs.Decimal.{digits_of, decimal_of}
 use Rattle.columns.specs.Row.{field_of, type_text, type_field, row_of}
 use Rattle.columns.specs.Row.{closed_text}
-use Rattle.columns.specs.declared.FrameType.{FrameType}
-use Rattle.columns.specs.declared.FrameType.TheVariants.{Is, Unread}
+use Rattle.std.specs.Prelude.{Option, Some, None, Result, Ok, Err}
 
 digits_size : (k n : ℕ) → length (digits_of k n) ≤ k
 unfolding digits_of
@@ -40,24 +37,24 @@ field_size : (n behind : ℕ) → length (field_of n behind) ≤ 21
 field_size n behind = omega (arith, field_length n behind, decimal_size n)
 
 -- a type is a field like a number, or a dash and a blank
-pub type_number : (ty : ℕ) → type_field (Is ty) ≡ field_of ty 32
+pub type_number : (ty : ℕ) → type_field (Some ty) ≡ field_of ty 32
 unfolding type_field type_text field_of
 type_number ty = refl
 
-pub type_dash : type_field Unread ≡ 45 ∷ 32 ∷ []
+pub type_dash : type_field None ≡ 45 ∷ 32 ∷ []
 unfolding type_field type_text
 type_dash = refl
 
-type_size : (ty : FrameType) → length (type_field ty) ≤ 21
-type_size (Is ty) = rw type_number (field_size ty 32)
-type_size Unread = rw type_dash (omega arith)
+type_size : (ty : Option ℕ) → length (type_field ty) ≤ 21
+type_size (Some ty) = rw type_number (field_size ty 32)
+type_size None = rw type_dash (omega arith)
 
 -- where there is room for the longest field, a number is written, and the byte after it makes it a field
-module _ (line : List ℕ) (at n : ℕ) (room : at + 21 ≤ length line) {r : Wrote} {after : List ℕ} (e : (r, after) ≡ writes (Bytes (decimal_of n)) line at) where
-  pub unrefused : {a : Answer} → r ≡ Refused a → ⊥
+module _ (line : List ℕ) (at n : ℕ) (room : at + 21 ≤ length line) {r : Result ℕ Answer} {after : List ℕ} (e : (r, after) ≡ writes (Bytes (decimal_of n)) line at) where
+  pub unrefused : {a : Answer} → r ≡ Err a → ⊥
   unrefused = bytes_unrefused (decimal_of n) line at e (omega (arith, decimal_size n))
 
-  module _ {next : ℕ} (p : r ≡ To next) where
+  module _ {next : ℕ} (p : r ≡ Ok next) where
     wrote : Written (decimal_of n) line at next after
     wrote = bytes_written (decimal_of n) line at e p
 
@@ -100,7 +97,7 @@ module _ {blank l : List ℕ} {k to : ℕ} {line : List ℕ} (b : Begun blank l 
   front h = rw (b.ends, b.holds, sets-eq l blank 0 (omega (arith, b.short))) (take-append_seam l _)
 
 -- the four fields of a row, one after the other on a line with room for the longest: each has room, and together they are the row
-module _ (place : ℕ) (ty : FrameType) (code total : ℕ) where
+module _ (place : ℕ) (ty : Option ℕ) (code total : ℕ) where
   row_fields : ((field_of place 32 ++ type_field ty) ++ field_of code 32) ++ field_of total 10 ≡ row_of place ty code total
   unfolding field_of type_field row_of
   row_fields = simp append_assoc
@@ -137,10 +134,10 @@ module _ (place : ℕ) (ty : FrameType) (code total : ℕ) where
           row_front = front whole (omega arith) ∙ row_fields
 
 -- the last line of a connection that was closed with a code: the text, and the code after it
-module _ (code : ℕ) {r : Wrote} {la : List ℕ} (ea : (r, la) ≡ writes (Bytes closed_text) (replicate 42 0) 0) where
+module _ (code : ℕ) {r : Result ℕ Answer} {la : List ℕ} (ea : (r, la) ≡ writes (Bytes closed_text) (replicate 42 0) 0) where
   with_text : Begun (replicate 42 0) closed_text 21 7 la
   unfolding closed_text
-  with_text = more (begin (replicate 42 0)) closed_text (omega arith) (refl, ap (λ (o : Wrote × List ℕ). o.1) (ea ∙ all_written (replicate 42 0) 0 closed_text (omega arith)))
+  with_text = more (begin (replicate 42 0)) closed_text (omega arith) (refl, ap (λ (o : Result ℕ Answer × List ℕ). o.1) (ea ∙ all_written (replicate 42 0) 0 closed_text (omega arith)))
 
   pub room_for_number : 7 + 21 ≤ length la
   room_for_number = room with_text (omega arith)

@@ -1,23 +1,21 @@
 -- A row of the listing: place, type, code and total in decimal, a blank (32) after each but the last, and a newline (10) after that. A type that could not be read is a dash (45).
-use Rattle.std.specs.Prelude.{ℕ, List, [], ◌∷◌, ◌++◌}
+use Rattle.std.specs.Prelude.{ℕ, List, [], ◌∷◌, ◌++◌, Option, Some, None}
 use Rattle.text.specs.Decimal.{decimal_of}
-use Rattle.columns.specs.declared.FrameType.{FrameType}
-use Rattle.columns.specs.declared.FrameType.TheVariants.{Is, Unread}
 
 -- a number and the byte after it
 unfoldable pub field_of : ℕ → ℕ → List ℕ
 field_of n behind = decimal_of n ++ (behind ∷ [])
 
 -- a type
-unfoldable pub type_text : FrameType → List ℕ
-type_text (Is ty) = decimal_of ty
-type_text Unread = 45 ∷ []
+unfoldable pub type_text : Option ℕ → List ℕ
+type_text (Some ty) = decimal_of ty
+type_text None = 45 ∷ []
 
 -- a type and the blank after it
-unfoldable pub type_field : FrameType → List ℕ
+unfoldable pub type_field : Option ℕ → List ℕ
 type_field ty = type_text ty ++ (32 ∷ [])
 
-unfoldable pub row_of : ℕ → FrameType → ℕ → ℕ → List ℕ
+unfoldable pub row_of : ℕ → Option ℕ → ℕ → ℕ → List ℕ
 row_of place ty code total = decimal_of place ++ (32 ∷ type_text ty ++ (32 ∷ decimal_of code ++ (32 ∷ decimal_of total ++ (10 ∷ []))))
 
 -- "closed ", before a code

@@ -6,15 +6,8 @@ ghost use Rattle.std.proofs.lemmas.List.Edits.{sets};
 ghost use Rattle.wire.specs.Writing.{Bytes, writes};
 ghost use Rattle.columns.specs.Row.{field_of, type_field, row_of, closed_text};
 
+use answers::Answer;
 use text::{decimal, put};
-use wire::Wrote;
-
-// A frame's type, or that it could not be read.
-#[derive(Drop)]
-pub enum FrameType {
-    Is { ty: u64 },
-    Unread,
-}
 
 // The longest row: four numbers of 20 digits, each with the byte after it.
 const MOST: usize = 84;
@@ -24,21 +17,21 @@ fn field(line: &mut [u8], at: usize, n: u64, behind: u8) -> usize
     requires { at + 21 ≤ length line.old }
     ensures { (result ≡ at + length (field_of n behind)) × (line.new ≡ sets line.old at (field_of n behind)) }
 {
-    let Wrote::To { next } = decimal::write(line, at, n) else {
+    let Ok(next) = decimal::write(line, at, n) else {
         return at;
     };
     line[next] = behind;
     next + 1
 }
 
-// Writes a type and the blank after it, likewise.
-fn type_field(line: &mut [u8], at: usize, ty: FrameType) -> usize
+// Writes a type, or a dash where none could be read, and the blank after it, likewise.
+fn type_field(line: &mut [u8], at: usize, ty: Option<u64>) -> usize
     requires { at + 21 ≤ length line.old }
     ensures { (result ≡ at + length (type_field ty)) × (line.new ≡ sets line.old at (type_field ty)) }
 {
     match ty {
-        FrameType::Is { ty } => field(line, at, ty, b' '),
-        FrameType::Unread => {
+        Some(ty) => field(line, at, ty, b' '),
+        None => {
             line[at] = b'-';
             line[at + 1] = b' ';
             at + 2
@@ -47,7 +40,14 @@ fn type_field(line: &mut [u8], at: usize, ty: FrameType) -> usize
 }
 
 // Writes a row at a place. A refusal leaves the output untouched.
-pub fn row(out: &mut [u8], at: usize, place: usize, ty: FrameType, code: u64, total: u64) -> Wrote
+pub fn row(
+    out: &mut [u8],
+    at: usize,
+    place: usize,
+    ty: Option<u64>,
+    code: u64,
+    total: u64,
+) -> Result<usize, Answer>
     ensures { (result, out.new) ≡ writes (Bytes (row_of place ty code total)) out.old at }
 {
     let mut line = [0u8; MOST];
@@ -59,11 +59,11 @@ pub fn row(out: &mut [u8], at: usize, place: usize, ty: FrameType, code: u64, to
 }
 
 // Writes the last line of a connection that was closed with a code. A refusal leaves the output untouched.
-pub fn closed(out: &mut [u8], at: usize, code: u64) -> Wrote
+pub fn closed(out: &mut [u8], at: usize, code: u64) -> Result<usize, Answer>
     ensures { (result, out.new) ≡ writes (Bytes (closed_text ++ field_of code 10)) out.old at }
 {
     let mut line = [0u8; 42];
-    put::bytes(&mut line, 0, b"closed ");
+    let _ = put::bytes(&mut line, 0, b"closed ");
     let end = field(&mut line, 7, code, b'\n');
     put::bytes(out, at, &line[..end])
 }

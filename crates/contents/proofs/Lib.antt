@@ -1,5 +1,4 @@
 pub mod Settled
 pub mod Ones
 pub mod Taking
-pub mod Tails
 pub mod Unique

@@ -1,4 +1,4 @@
--- The cases of `takes`, each under the tests that lead there, and what holds of a frame that can be written.
+-- What `takes` asks in the end, and what holds of a frame that can be written.
 -- Assumes nothing.
 use mathlib.Core.Path.{◌≡◌}
 use mathlib.Core.Bool.{true, false, not, ◌&&◌, and-eq-true_iff}
@@ -12,23 +12,11 @@ use Rattle.contents.specs.Content.{Content}
 use Rattle.contents.specs.Taken.{takes, fitting}
 use Rattle.contents.proofs.Ones.{first_in_range}
 
-module _ (f : Content) where
-  pub outside : f.inside ≡ false → takes f ≡ false
-  unfolding takes
-  outside e = rw e
-
-  pub above : f.inside ≡ true → in_range (f.a ∷ f.b ∷ f.c ∷ f.d ∷ f.x ∷ f.y ∷ f.z ∷ f.len ∷ []) ≡ false → takes f ≡ false
-  unfolding takes
-  above e g = rw (e, g)
-
-  pub faulty : f.inside ≡ true → in_range (f.a ∷ f.b ∷ f.c ∷ f.d ∷ f.x ∷ f.y ∷ f.z ∷ f.len ∷ []) ≡ true → fault_of f.ty f.a f.b f.len ≡ true → takes f ≡ false
-  unfolding takes
-  faulty e g h = rw (e, g, h)
-
-  pub fine : f.inside ≡ true → in_range (f.a ∷ f.b ∷ f.c ∷ f.d ∷ f.x ∷ f.y ∷ f.z ∷ f.len ∷ []) ≡ true → fault_of f.ty f.a f.b f.len ≡ false
-      → takes f ≡ fitting (layout_of f.ty).tail f.a f.c f.d f.body
-  unfolding takes
-  fine e g h = rw (e, g, h)
+-- what is left to ask of a frame whose places are inside, whose numbers are in range and whose fields have no fault
+pub fine : (f : Content) → f.inside ≡ true → in_range (f.a ∷ f.b ∷ f.c ∷ f.d ∷ f.x ∷ f.y ∷ f.z ∷ f.len ∷ []) ≡ true → fault_of f.ty f.a f.b f.len ≡ false
+    → takes f ≡ fitting (layout_of f.ty).tail f.a f.c f.d f.body
+unfolding takes
+fine f e g h = rw (e, g, h)
 
 -- the parts of `takes`
 pub record Taken (f : Content) : Type 0 where

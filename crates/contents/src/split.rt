@@ -4,31 +4,42 @@ ghost use Rattle.contents.specs.Parts.{stream_type, way_type, plain_parts, holdi
 
 use fields::Parts;
 use frames::Frame;
+use layouts::types;
+
+// No numbers and no bytes: what a frame does not have is 0.
+const NONE: Parts = Parts {
+    ty: 0,
+    a: 0,
+    b: 0,
+    c: 0,
+    d: 0,
+    at: 0,
+    len: 0,
+    token: 0,
+    x: 0,
+    y: 0,
+    z: 0,
+};
 
 // STREAM with LEN always, and with OFF exactly when the offset is not 0.
+#[tactic(auto, unfolding(crate::specs::Parts::stream_type))]
 fn stream_type(offset: u64, fin: bool) -> u64
     ensures { result ≡ stream_type offset fin }
 {
-    if 0 < offset {
-        if fin {
-            return 15;
-        }
-        return 14;
+    match (0 < offset, fin) {
+        (true, true) => 0x0f,
+        (true, false) => 0x0e,
+        (false, true) => 0x0b,
+        (false, false) => 0x0a,
     }
-    if fin {
-        return 11;
-    }
-    10
 }
 
 // Of two types the one for one-way streams, or the one for two-way streams.
+#[tactic(auto, unfolding(crate::specs::Parts::way_type))]
 fn way_type(uni: bool, one: u64, two: u64) -> u64
     ensures { result ≡ way_type uni one two }
 {
-    if uni {
-        return one;
-    }
-    two
+    if uni { one } else { two }
 }
 
 // A frame of numbers alone.
@@ -40,13 +51,7 @@ fn plain(ty: u64, a: u64, b: u64, c: u64) -> Parts
         a,
         b,
         c,
-        d: 0,
-        at: 0,
-        len: 0,
-        token: 0,
-        x: 0,
-        y: 0,
-        z: 0,
+        ..NONE
     }
 }
 
@@ -58,14 +63,9 @@ fn holding(ty: u64, a: u64, b: u64, at: usize, len: usize) -> Parts
         ty,
         a,
         b,
-        c: 0,
-        d: 0,
         at,
         len,
-        token: 0,
-        x: 0,
-        y: 0,
-        z: 0,
+        ..NONE
     }
 }
 
@@ -74,8 +74,8 @@ pub fn apart(frame: Frame) -> Parts
     ensures { result ≡ parts_of frame }
 {
     match frame {
-        Frame::Padding => plain(0, 0, 0, 0),
-        Frame::Ping => plain(1, 0, 0, 0),
+        Frame::Padding => plain(types::PADDING, 0, 0, 0),
+        Frame::Ping => plain(types::PING, 0, 0, 0),
         Frame::Ack {
             largest,
             delay,
@@ -83,17 +83,13 @@ pub fn apart(frame: Frame) -> Parts
             first,
             at,
         } => Parts {
-            ty: 2,
+            ty: types::ACK,
             a: largest,
             b: delay,
             c: count,
             d: first,
             at,
-            len: 0,
-            token: 0,
-            x: 0,
-            y: 0,
-            z: 0,
+            ..NONE
         },
         Frame::AckEcn {
             largest,
@@ -105,22 +101,21 @@ pub fn apart(frame: Frame) -> Parts
             ect1,
             ce,
         } => Parts {
-            ty: 3,
+            ty: types::ACK_ECN,
             a: largest,
             b: delay,
             c: count,
             d: first,
             at,
-            len: 0,
-            token: 0,
             x: ect0,
             y: ect1,
             z: ce,
+            ..NONE
         },
-        Frame::ResetStream { id, code, size } => plain(4, id, code, size),
-        Frame::StopSending { id, code } => plain(5, id, code, 0),
-        Frame::Crypto { offset, at, len } => holding(6, offset, 0, at, len),
-        Frame::NewToken { at, len } => holding(7, 0, 0, at, len),
+        Frame::ResetStream { id, code, size } => plain(types::RESET_STREAM, id, code, size),
+        Frame::StopSending { id, code } => plain(types::STOP_SENDING, id, code, 0),
+        Frame::Crypto { offset, at, len } => holding(types::CRYPTO, offset, 0, at, len),
+        Frame::NewToken { at, len } => holding(types::NEW_TOKEN, 0, 0, at, len),
         Frame::Stream {
             id,
             offset,
@@ -128,12 +123,23 @@ pub fn apart(frame: Frame) -> Parts
             at,
             len,
         } => holding(stream_type(offset, fin), id, offset, at, len),
-        Frame::MaxData { maximum } => plain(16, maximum, 0, 0),
-        Frame::MaxStreamData { id, maximum } => plain(17, id, maximum, 0),
-        Frame::MaxStreams { uni, maximum } => plain(way_type(uni, 19, 18), maximum, 0, 0),
-        Frame::DataBlocked { maximum } => plain(20, maximum, 0, 0),
-        Frame::StreamDataBlocked { id, maximum } => plain(21, id, maximum, 0),
-        Frame::StreamsBlocked { uni, maximum } => plain(way_type(uni, 23, 22), maximum, 0, 0),
+        Frame::MaxData { maximum } => plain(types::MAX_DATA, maximum, 0, 0),
+        Frame::MaxStreamData { id, maximum } => plain(types::MAX_STREAM_DATA, id, maximum, 0),
+        Frame::MaxStreams { uni, maximum } => {
+            let ty = way_type(uni, types::MAX_STREAMS_UNI, types::MAX_STREAMS_BIDI);
+            plain(ty, maximum, 0, 0)
+        },
+        Frame::DataBlocked { maximum } => plain(types::DATA_BLOCKED, maximum, 0, 0),
+        Frame::StreamDataBlocked { id, maximum } => plain(
+            types::STREAM_DATA_BLOCKED,
+            id,
+            maximum,
+            0,
+        ),
+        Frame::StreamsBlocked { uni, maximum } => {
+            let ty = way_type(uni, types::STREAMS_BLOCKED_UNI, types::STREAMS_BLOCKED_BIDI);
+            plain(ty, maximum, 0, 0)
+        },
         Frame::NewConnectionId {
             sequence,
             retire,
@@ -141,23 +147,36 @@ pub fn apart(frame: Frame) -> Parts
             len,
             token,
         } => Parts {
-            ty: 24,
+            ty: types::NEW_CONNECTION_ID,
             a: sequence,
             b: retire,
-            c: 0,
-            d: 0,
             at,
             len,
             token,
-            x: 0,
-            y: 0,
-            z: 0,
+            ..NONE
         },
-        Frame::RetireConnectionId { sequence } => plain(25, sequence, 0, 0),
-        Frame::PathChallenge { at } => holding(26, 0, 0, at, 8),
-        Frame::PathResponse { at } => holding(27, 0, 0, at, 8),
-        Frame::ConnectionClose { code, ty, at, len } => holding(28, code, ty, at, len),
-        Frame::ApplicationClose { code, at, len } => holding(29, code, 0, at, len),
-        Frame::HandshakeDone => plain(30, 0, 0, 0),
+        Frame::RetireConnectionId { sequence } => plain(
+            types::RETIRE_CONNECTION_ID,
+            sequence,
+            0,
+            0,
+        ),
+        Frame::PathChallenge { at } => holding(types::PATH_CHALLENGE, 0, 0, at, 8),
+        Frame::PathResponse { at } => holding(types::PATH_RESPONSE, 0, 0, at, 8),
+        Frame::ConnectionClose { code, ty, at, len } => holding(
+            types::CONNECTION_CLOSE,
+            code,
+            ty,
+            at,
+            len,
+        ),
+        Frame::ApplicationClose { code, at, len } => holding(
+            types::APPLICATION_CLOSE,
+            code,
+            0,
+            at,
+            len,
+        ),
+        Frame::HandshakeDone => plain(types::HANDSHAKE_DONE, 0, 0, 0),
     }
 }

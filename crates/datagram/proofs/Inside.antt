@@ -18,18 +18,18 @@ use Rattle.datagram.specs.declared.Kind.{Kind}
 use Rattle.datagram.specs.declared.Kind.TheVariants.{Initial, ZeroRtt, Handshake, Retry, OneRtt, VersionNegotiation, OtherVersion}
 use Rattle.invariants.specs.declared.Part.{Part}
 use Rattle.datagram.specs.declared.Header.{Header}
-use Rattle.datagram.specs.declared.Next.TheVariants.{Packet, Stop}
 use Rattle.datagram.specs.Header.{bit, first_of, type_of, header_of, whole_of}
 use Rattle.datagram.specs.Inside.{numbered, Inside, Fine}
 use Rattle.datagram.specs.Inside.Fine.{packet, none}
 use Rattle.datagram.specs.Split.{negotiation_of, retry_of, numbered_of, initial_of, version_one_of, long_of, short_of, next_of}
 use Rattle.invariants.proofs.Cases.{Ordered, counted, ordered, with_bytes_law, with_invariant_law}
+use Rattle.std.specs.Prelude.{Ok, Err}
 
 never : {A : Type 0} → ◌≡◌ {A = Bool} false true → A
 never e = absurd (false≢true e)
 
 module _ (s : List ℕ) (d u : Part) (o : Ordered s d u) where
-  whole_fine : (kind : Kind) (version : ℕ) → (numbered kind ≡ true → after u + 20 ≤ length s) → Fine s (Packet (whole_of s kind version d u))
+  whole_fine : (kind : Kind) (version : ℕ) → (numbered kind ≡ true → after u + 20 ≤ length s) → Fine s (Ok (whole_of s kind version d u))
   whole_fine kind version f =
       packet (whole_of s kind version d u)
       (record { first = o.first; ids = o.ids; token = omega arith; number = omega arith; end = o.within; within = omega arith; sample = f })
@@ -98,19 +98,19 @@ module _ (s : List ℕ) where
   fine h = rw (ne_eqb (length s) 0 (omega arith)) (holds (Fine s) (bit 7 (first_of s)) _ _ (λ e. long_fine) (λ e. short_fine))
 
   -- of an empty rest the answer is "done", and of no other
-  pub done : length s ≡ 0 → next_of s ≡ Stop Done
+  pub done : length s ≡ 0 → next_of s ≡ Err Done
   unfolding next_of
   done h = rw (eq-eqb (length s) 0 h)
 
   -- the law for callers: a packet lies inside the rest
-  pub inside : {h : Header} → next_of s ≡ Packet h → Inside s h
+  pub inside : {h : Header} → next_of s ≡ Ok h → Inside s h
   inside {h} e =
       below_or_not 0 (length s) (λ k. opened (subst (Fine s) e (fine k)))
       (λ k. let d = done (omega arith) in impossible cc)
     where
-      opened : {h : Header} → Fine s (Packet h) → Inside s h
+      opened : {h : Header} → Fine s (Ok h) → Inside s h
       opened (packet h i) = i
 
   -- and splitting ends, as every packet has bytes
-  pub shorter : {h : Header} → next_of s ≡ Packet h → 0 < h.end
+  pub shorter : {h : Header} → next_of s ≡ Ok h → 0 < h.end
   shorter e = let i = inside e in omega arith

@@ -10,14 +10,9 @@ use lib.Dec.{eqb}
 use lib.ListN.{length, get_or}
 use Rattle.answers.specs.Choice.{◌⇒◌∣◌}
 use Rattle.wire.specs.Number.{big_endian, field_at, plain_at, number_at, with_number}
-use Rattle.wire.specs.declared.Number.{Number}
-use Rattle.wire.specs.declared.Number.TheVariants as Number'
 use Rattle.wire.proofs.Sound.{found, sound}
 use Rattle.invariants.specs.declared.Part.{Part}
-use Rattle.invariants.specs.declared.Bytes.{Bytes}
-use Rattle.invariants.specs.declared.Bytes.TheVariants as Bytes'
 use Rattle.invariants.specs.declared.Invariant.{Invariant}
-use Rattle.invariants.specs.declared.Invariant.TheVariants as Invariant'
 use Rattle.invariants.specs.Invariant.{part_of, after, bytes_after, with_bytes, invariant_of, with_invariant}
 use Rattle.datagram.specs.declared.Kind.{Kind}
 use Rattle.datagram.specs.declared.Kind.TheVariants.{Initial, ZeroRtt, Handshake}
@@ -25,23 +20,24 @@ use Rattle.datagram.specs.Header.{bit, first_of}
 use Rattle.datagram.specs.Split.{negotiation_of, retry_of, numbered_of, initial_of, version_one_of, long_of, short_of, next_of}
 use Rattle.datagram.specs.Unseen.{Alike}
 use Rattle.invariants.proofs.Cases.{counted, ordered, byte_first}
+use Rattle.std.specs.Prelude.{Option, Some, None}
 
 -- a test has the same two sides where each side is the same under it
 choose {ℓ} : {A : Type ℓ} (b : Bool) {x x' y y' : A} → (b ≡ true → x ≡ x') → (b ≡ false → y ≡ y') → (b ⇒ x ∣ y) ≡ (b ⇒ x' ∣ y')
 choose true p q = p refl
 choose false p q = q refl
 
-go_number : {X : Type 0} (n : Number) (x : X) {k l : ℕ → ℕ → X} → ((v m : ℕ) → n ≡ Number'.Is v m → k v m ≡ l v m) → with_number n x k ≡ with_number n x l
-go_number (Number'.Is v m) x f = f v m refl
-go_number Number'.CutShort x f = refl
+go_number : {X : Type 0} (n : Option (ℕ × ℕ)) (x : X) {k l : ℕ → ℕ → X} → ((v m : ℕ) → n ≡ Some (v, m) → k v m ≡ l v m) → with_number n x k ≡ with_number n x l
+go_number (Some (v, m)) x f = f v m refl
+go_number None x f = refl
 
-go_bytes : {X : Type 0} (b : Bytes) (x : X) {k l : Part → X} → ((p : Part) → b ≡ Bytes'.Are p → k p ≡ l p) → with_bytes b x k ≡ with_bytes b x l
-go_bytes (Bytes'.Are p) x f = f p refl
-go_bytes Bytes'.CutShort x f = refl
+go_bytes : {X : Type 0} (b : Option Part) (x : X) {k l : Part → X} → ((p : Part) → b ≡ Some p → k p ≡ l p) → with_bytes b x k ≡ with_bytes b x l
+go_bytes (Some p) x f = f p refl
+go_bytes None x f = refl
 
-go_invariant : {X : Type 0} (i : Invariant) (x : X) {k l : ℕ → Part → Part → X} → ((v : ℕ) (d u : Part) → i ≡ Invariant'.Is v d u → k v d u ≡ l v d u) → with_invariant i x k ≡ with_invariant i x l
-go_invariant (Invariant'.Is v d u) x f = f v d u refl
-go_invariant Invariant'.CutShort x f = refl
+go_invariant : {X : Type 0} (i : Option Invariant) (x : X) {k l : ℕ → Part → Part → X} → ((v : ℕ) (d u : Part) → i ≡ Some (record { version = v; destination = d; source = u }) → k v d u ≡ l v d u) → with_invariant i x k ≡ with_invariant i x l
+go_invariant (Some i) x f = f i.version i.destination i.source refl
+go_invariant None x f = refl
 
 -- two rests of one length that are the same above place 0
 module _ (s t : List ℕ) (len : length s ≡ length t) (same : (i : ℕ) → 0 < i → get_or s i 0 ≡ get_or t i 0) where
@@ -61,7 +57,7 @@ module _ (s t : List ℕ) (len : length s ≡ length t) (same : (i : ℕ) → 0 
   unfolding number_at
   number at h = rw (same at h, big at (2 ^ (get_or t at 0 / 64 % 4)) h) (field at _ _)
 
-  bytes : (n : Number) → bytes_after s n ≡ bytes_after t n
+  bytes : (n : Option (ℕ × ℕ)) → bytes_after s n ≡ bytes_after t n
   unfolding bytes_after
   bytes n = rw len
 

@@ -1,12 +1,11 @@
 -- Where a header's parts lie: one after the other, none overlapping another, all within the rest; and the packet has bytes, so that splitting ends.
-use Rattle.std.specs.Prelude.{◌≡◌, Bool, true, false, ℕ, ◌+◌, ◌≤◌, ◌<◌, List, length}
+use Rattle.std.specs.Prelude.{◌≡◌, Bool, true, false, ℕ, ◌+◌, ◌≤◌, ◌<◌, List, length, Result, Ok, Err}
 use Rattle.answers.specs.declared.Answer.TheVariants.{NoPacket}
 use Rattle.invariants.specs.Invariant.{after}
 use Rattle.datagram.specs.declared.Kind.{Kind}
 use Rattle.datagram.specs.declared.Kind.TheVariants.{Initial, ZeroRtt, Handshake, Retry, OneRtt, VersionNegotiation, OtherVersion}
 use Rattle.datagram.specs.declared.Header.{Header}
-use Rattle.datagram.specs.declared.Next.{Next}
-use Rattle.datagram.specs.declared.Next.TheVariants.{Packet, Stop}
+use Rattle.answers.specs.declared.Answer.{Answer}
 
 -- the kinds that have a packet number
 abbrev pub numbered : Kind → Bool
@@ -29,6 +28,6 @@ pub record Inside (s : List ℕ) (h : Header) : Type 0 where
   pub sample : numbered h.kind ≡ true → h.number + 20 ≤ h.end
 
 -- a packet that lies inside, or 110
-pub data Fine (s : List ℕ) : Next → Type 0 where
-  packet : (h : Header) → Inside s h → Fine s (Packet h)
-  none : Fine s (Stop NoPacket)
+pub data Fine (s : List ℕ) : Result Header Answer → Type 0 where
+  packet : (h : Header) → Inside s h → Fine s (Ok h)
+  none : Fine s (Err NoPacket)

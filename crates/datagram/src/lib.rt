@@ -3,10 +3,10 @@
 
 ghost use Rattle.std.specs.Prelude.{◌≡◌, ◌+◌, ◌≤◌, ◌<◌, length, get_or};
 ghost use Rattle.datagram.specs.Header.{whole_of};
-ghost use Rattle.datagram.specs.Split.{none, negotiation_of, retry_of, numbered_of, initial_of, version_one_of, long_of, next_of};
+ghost use Rattle.datagram.specs.Split.{negotiation_of, retry_of, numbered_of, initial_of, version_one_of, long_of, next_of};
 
 use answers::Answer;
-use invariants::{Bytes, Invariant, Part};
+use invariants::{Invariant, Part};
 
 // The seven kinds of packet that can be told apart before protection is removed.
 #[derive(Clone, Copy)]
@@ -33,178 +33,135 @@ pub struct Header {
     pub end: usize,
 }
 
-// The next packet of a datagram, or why there is none: the rest is empty, or it begins with no packet of these forms.
-#[derive(Clone, Copy)]
-pub enum Next {
-    Packet { header: Header },
-    Stop { answer: Answer },
-}
-
-// Everything else is 110.
-fn no_packet() -> Next
-    ensures { result ≡ none }
-{
-    Next::Stop {
-        answer: Answer::NoPacket,
-    }
-}
-
 // A header after whose IDs all the rest belongs to the packet.
-fn whole(rest: &[u8], kind: Kind, version: u64, destination: Part, source: Part) -> Next
-    requires { source.at + source.len ≤ length rest.now }
-    ensures { result ≡ Next.Packet (whole_of rest.now kind version destination source) }
+fn whole(rest: &[u8], kind: Kind, ids: Invariant) -> Header
+    requires { ids.source.at + ids.source.len ≤ length rest.now }
+    ensures { result ≡ whole_of rest.now kind ids.version ids.destination ids.source }
 {
-    let at = source.at + source.len;
-    let token = Part { at, len: 0 };
-    Next::Packet {
-        header: Header {
-            kind,
-            version,
-            destination,
-            source,
-            token,
-            number: at,
-            end: rest.len(),
-        },
+    let at = ids.source.at + ids.source.len;
+    Header {
+        kind,
+        version: ids.version,
+        destination: ids.destination,
+        source: ids.source,
+        token: Part { at, len: 0 },
+        number: at,
+        end: rest.len(),
     }
 }
 
-fn negotiation(rest: &[u8], destination: Part, source: Part) -> Next
-    requires { source.at + source.len ≤ length rest.now }
-    ensures { result ≡ negotiation_of rest.now destination source }
+#[tactic(auto, unfolding(crate::specs::Split::negotiation_of))]
+fn negotiation(rest: &[u8], ids: Invariant) -> Result<Header, Answer>
+    requires { (ids.version ≡ 0) × (ids.source.at + ids.source.len ≤ length rest.now) }
+    ensures { result ≡ negotiation_of rest.now ids.destination ids.source }
 {
-    let left = rest.len() - (source.at + source.len);
-    if left == 0 {
-        return no_packet();
+    let left = rest.len() - (ids.source.at + ids.source.len);
+    if left == 0 || left % 4 != 0 {
+        return Err(Answer::NoPacket);
     }
-    if left % 4 != 0 {
-        return no_packet();
-    }
-    whole(rest, Kind::VersionNegotiation, 0, destination, source)
+    Ok(whole(rest, Kind::VersionNegotiation, ids))
 }
 
-fn retry(rest: &[u8], destination: Part, source: Part) -> Next
-    requires { source.at + source.len ≤ length rest.now }
-    ensures { result ≡ retry_of rest.now destination source }
+#[tactic(auto, unfolding(crate::specs::Split::retry_of))]
+fn retry(rest: &[u8], ids: Invariant) -> Result<Header, Answer>
+    requires { (ids.version ≡ 1) × (ids.source.at + ids.source.len ≤ length rest.now) }
+    ensures { result ≡ retry_of rest.now ids.destination ids.source }
 {
-    if rest.len() - (source.at + source.len) < 16 {
-        return no_packet();
+    if rest.len() - (ids.source.at + ids.source.len) < 16 {
+        return Err(Answer::NoPacket);
     }
-    whole(rest, Kind::Retry, 1, destination, source)
+    Ok(whole(rest, Kind::Retry, ids))
 }
 
 // A packet with a Length, which counts from the packet number and leaves room for a sample.
-fn numbered(rest: &[u8], kind: Kind, destination: Part, source: Part, token: Part) -> Next
-    requires { token.at + token.len ≤ length rest.now }
-    ensures { result ≡ numbered_of rest.now kind destination source token }
+#[tactic(auto, unfolding(crate::specs::Split::numbered_of))]
+fn numbered(rest: &[u8], kind: Kind, ids: Invariant, token: Part) -> Result<Header, Answer>
+    requires { (ids.version ≡ 1) × (token.at + token.len ≤ length rest.now) }
+    ensures { result ≡ numbered_of rest.now kind ids.destination ids.source token }
 {
-    let length_at = token.at + token.len;
-    let Bytes::Are { part: counted } = invariants::bytes_after(rest, wire::read(rest, length_at))
-    else {
-        return no_packet();
-    };
+    let length = wire::read(rest, token.at + token.len);
+    let counted = invariants::bytes_after(rest, length).ok_or(Answer::NoPacket)?;
     if counted.len < 20 {
-        return no_packet();
+        return Err(Answer::NoPacket);
     }
-    let number = counted.at;
-    let end = counted.at + counted.len;
-    Next::Packet {
-        header: Header {
-            kind,
-            version: 1,
-            destination,
-            source,
-            token,
-            number,
-            end,
-        },
-    }
+    Ok(Header {
+        kind,
+        version: ids.version,
+        destination: ids.destination,
+        source: ids.source,
+        token,
+        number: counted.at,
+        end: counted.at + counted.len,
+    })
 }
 
-fn initial(rest: &[u8], destination: Part, source: Part) -> Next
-    requires { source.at + source.len ≤ length rest.now }
-    ensures { result ≡ initial_of rest.now destination source }
+#[tactic(auto, unfolding(crate::specs::Split::initial_of))]
+fn initial(rest: &[u8], ids: Invariant) -> Result<Header, Answer>
+    requires { (ids.version ≡ 1) × (ids.source.at + ids.source.len ≤ length rest.now) }
+    ensures { result ≡ initial_of rest.now ids.destination ids.source }
 {
-    let length_at = source.at + source.len;
-    let Bytes::Are { part: token } = invariants::bytes_after(rest, wire::read(rest, length_at))
-    else {
-        return no_packet();
-    };
-    numbered(rest, Kind::Initial, destination, source, token)
+    let length = wire::read(rest, ids.source.at + ids.source.len);
+    let token = invariants::bytes_after(rest, length).ok_or(Answer::NoPacket)?;
+    numbered(rest, Kind::Initial, ids, token)
 }
 
 // By the type of a long header of version 1. Its low four bits are protected and are not looked at.
-fn version_one(rest: &[u8], first: u8, destination: Part, source: Part) -> Next
-    requires { (first ≡ get_or rest.now 0 0) × (source.at + source.len ≤ length rest.now) }
-    ensures { result ≡ version_one_of rest.now destination source }
+#[tactic(auto, unfolding(crate::specs::Split::version_one_of))]
+fn version_one(rest: &[u8], first: u8, ids: Invariant) -> Result<Header, Answer>
+    requires { (first ≡ get_or rest.now 0 0) × (ids.version ≡ 1) × (ids.source.at + ids.source.len ≤ length rest.now) }
+    ensures { result ≡ version_one_of rest.now ids.destination ids.source }
 {
-    if first / 64 % 2 != 1 {
-        return no_packet();
-    }
-    if 20 < destination.len {
-        return no_packet();
-    }
-    if 20 < source.len {
-        return no_packet();
-    }
-    let form = first / 16 % 4;
-    if form == 0 {
-        return initial(rest, destination, source);
-    }
-    if form == 3 {
-        return retry(rest, destination, source);
+    if first / 64 % 2 != 1 || 20 < ids.destination.len || 20 < ids.source.len {
+        return Err(Answer::NoPacket);
     }
     let none = Part {
-        at: source.at + source.len,
+        at: ids.source.at + ids.source.len,
         len: 0,
     };
-    if form == 1 {
-        return numbered(rest, Kind::ZeroRtt, destination, source, none);
+    let form = first / 16 % 4;
+    match form {
+        0 => initial(rest, ids),
+        1 => numbered(rest, Kind::ZeroRtt, ids, none),
+        2 => numbered(rest, Kind::Handshake, ids, none),
+        _ => retry(rest, ids),
     }
-    numbered(rest, Kind::Handshake, destination, source, none)
 }
 
-fn long(rest: &[u8], first: u8) -> Next
+#[tactic(auto, unfolding(crate::specs::Split::long_of))]
+fn long(rest: &[u8], first: u8) -> Result<Header, Answer>
     requires { first ≡ get_or rest.now 0 0 }
     ensures { result ≡ long_of rest.now }
 {
-    let Invariant::Is {
-        version,
-        destination,
-        source,
-    } = invariants::read(rest)
-    else {
-        return no_packet();
-    };
-    if version == 0 {
-        return negotiation(rest, destination, source);
+    let ids = invariants::read(rest).ok_or(Answer::NoPacket)?;
+    if ids.version == 0 {
+        return negotiation(rest, ids);
     }
-    if version == 1 {
-        return version_one(rest, first, destination, source);
+    if ids.version == 1 {
+        return version_one(rest, first, ids);
     }
-    whole(rest, Kind::OtherVersion, version, destination, source)
+    Ok(whole(rest, Kind::OtherVersion, ids))
 }
 
-// The header of the packet at the start of the rest of a datagram. The next rest begins at its end.
-pub fn split(rest: &[u8]) -> Next
+// The header of the packet at the start of the rest of a datagram; done where the rest is empty, and no packet where it begins with none of
+// these forms. The next rest begins at the header's end.
+#[tactic(auto, unfolding(crate::specs::Split::next_of, crate::specs::Split::short_of))]
+pub fn split(rest: &[u8]) -> Result<Header, Answer>
     ensures { result ≡ next_of rest.now }
 {
-    if rest.len() == 0 {
-        return Next::Stop {
-            answer: Answer::Done,
-        };
+    if rest.is_empty() {
+        return Err(Answer::Done);
     }
     let first = rest[0];
     if first / 128 % 2 == 1 {
         return long(rest, first);
     }
-    if first / 64 % 2 != 1 {
-        return no_packet();
+    if first / 64 % 2 != 1 || rest.len() < 29 {
+        return Err(Answer::NoPacket);
     }
-    if rest.len() < 29 {
-        return no_packet();
-    }
-    let destination = Part { at: 1, len: 8 };
-    let source = Part { at: 9, len: 0 };
-    whole(rest, Kind::OneRtt, 1, destination, source)
+    let ids = Invariant {
+        version: 1,
+        destination: Part { at: 1, len: 8 },
+        source: Part { at: 9, len: 0 },
+    };
+    Ok(whole(rest, Kind::OneRtt, ids))
 }

@@ -15,8 +15,6 @@ use Rattle.answers.proofs.Choice.{holds}
 use Rattle.wire.specs.Number.{big_endian}
 use Rattle.kinds.specs.declared.Kind.{Kind}
 use Rattle.numbers.specs.Numbers.{bytes_in, window_of, nearest_of, recovered_of}
-use Rattle.numbers.specs.declared.Recovered.{Recovered}
-use Rattle.numbers.specs.declared.Recovered.TheVariants as Recovered'
 use Rattle.records.specs.declared.Record.{Record}
 use Rattle.records.specs.Marks.{recorded, test_of}
 use Rattle.streams.specs.declared.Conn.{Conn}
@@ -29,9 +27,8 @@ use Rattle.spaces.specs.Spaces.{record_of, records_fit}
 use Rattle.packets.specs.Begin.{refused_of, closes_of, tested_of, with_recovered, in_space_of, with_kind, begin_of}
 use Rattle.packets.specs.declared.Begun.{Begun}
 use Rattle.spaces.specs.declared.Records.{Records}
-use Rattle.headers.specs.declared.Header.{Header}
-use Rattle.headers.specs.declared.Header.TheVariants as Header'
 use Rattle.demands.specs.Demand1.{closes}
+use Rattle.std.specs.Prelude.{Option, Some, None, Result, Ok, Err}
 
 -- an answer that neither accepts nor closes; and it is 120 only where something does not fit
 pub record Quiet (whole : Bool) (answer : Answer) : Type 0 where
@@ -56,9 +53,9 @@ tested R n =
     holds Tested (ltb (n + 8192) R.top) BelowRecord _ (λ e. record { leaves = refl; fitting = refl }) (λ e.
     holds Tested (recorded R n) InRecord Accepted (λ f. record { leaves = refl; fitting = refl }) (λ f. record { leaves = refl; fitting = refl }))
 
-with_kind_law : (P : Begun → Type 0) (m : Header) (x : Begun) (k : Kind → Begun) → P x → ((kind : Kind) → P (k kind)) → P (with_kind m x k)
-with_kind_law P (Header'.Carries kind) x k p q = q kind
-with_kind_law P Header'.NoPacket x k p q = p
+with_kind_law : (P : Begun → Type 0) (m : Option Kind) (x : Begun) (k : Kind → Begun) → P x → ((kind : Kind) → P (k kind)) → P (with_kind m x k)
+with_kind_law P (Some kind) x k p q = q kind
+with_kind_law P None x k p q = p
 
 both : (a b : Bool) → a && b ≡ true → a ≡ true
 both true b e = refl
@@ -76,8 +73,8 @@ module _ (c : Conn) (live whole : Bool) (l : live ≡ true) where
   unfolding in_space_of recovered_of
   in_space R kind first s =
       holds (Begins c (length s) live whole) (ltb (length s) (bytes_in (size_in first))) _ _ (λ e. stays NoPacket (record { refuses = refl; leaves = refl; fitting = λ f. refl })) (λ e.
-      holds (λ (r : Recovered). Begins c (length s) live whole (with_recovered r (λ answer. refused_of c answer (length s)) (λ number. tested_of c (test_of R number) kind number first (bytes_in (size_in first)) (length s))))
-      (ltb (nearest_of R.top (window_of (size_in first)) (big_endian s 0 (bytes_in (size_in first)))) (2 ^ 62)) (Recovered'.Is _) (Recovered'.Refused NoSuchNumber)
+      holds (λ (r : Result ℕ Answer). Begins c (length s) live whole (with_recovered r (λ answer. refused_of c answer (length s)) (λ number. tested_of c (test_of R number) kind number first (bytes_in (size_in first)) (length s))))
+      (ltb (nearest_of R.top (window_of (size_in first)) (big_endian s 0 (bytes_in (size_in first)))) (2 ^ 62)) (Ok _) (Err NoSuchNumber)
       (λ b. numbered _ kind _ first _ (length s) (tested R _)) (λ b. stays NoSuchNumber (record { refuses = refl; leaves = refl; fitting = λ f. refl })))
 
 pub begins : (c : Conn) (rs : Records) (fit : Bool) (first : ℕ) (s : List ℕ) → Begins c (length s) (fit && is_open c.mark) (fit && records_fit rs) (begin_of c rs fit first s)

@@ -29,7 +29,6 @@ use Rattle.halves.specs.Stream.{half_of, ordinal_of, receives, most_streams}
 use Rattle.entries.specs.Entry.{most_credit, final_of, is_known, entry_at}
 use Rattle.streams.specs.Conn.{is_open, opened_of, count_of, next_of, handed_out_of}
 use Rattle.kinds.specs.Kinds.{space_of}
-use Rattle.verdicts.specs.Verdict.{settled_of}
 use Rattle.calls.specs.declared.Call.{Call}
 use Rattle.calls.specs.declared.Call.TheVariants.{RaiseCredit, RaiseStream, RaiseCount, OpenNext}
 use Rattle.replies.specs.declared.Replied.{Replied}
@@ -46,7 +45,6 @@ use Rattle.spaces.specs.declared.Records.{Records}
 use Rattle.steps.specs.declared.Stopped.{Stopped}
 use Rattle.endings.specs.declared.Took.{Took}
 use Rattle.steps.specs.declared.TookFrame.{TookFrame}
-use Rattle.steps.specs.declared.Gate.{Gate}
 use Rattle.spaces.specs.Spaces.{records_fit, recorded_of}
 use Rattle.spaces.proofs.Each.{each}
 use Rattle.steps.specs.Step.{request_at}
@@ -76,9 +74,6 @@ CalledFits x = Fitting x.answer
 
 abbrev JudgedFits : Judged → Type 0
 JudgedFits x = Fitting x.answer
-
-abbrev GateFits : Gate → Type 0
-GateFits x = Fitting x.answer
 
 abbrev FrameFits : TookFrame → Type 0
 FrameFits x = Fitting x.answer
@@ -133,7 +128,7 @@ unfolding walk_from
 walk_fits zero c t s at kind = record { not_120 = refl }
 walk_fits (suc k) c t s at kind =
     holds StopFits (leb (length s) at) _ _ (λ e. record { not_120 = refl }) (λ e.
-    holds StopFits (stepped_at c t s at kind).more _ _ (λ m. walk_fits k _ _ s _ kind) (λ m. stepped_fits c t s at kind))
+    holds StopFits (is_open (stepped_at c t s at kind).conn.mark) _ _ (λ m. walk_fits k _ _ s _ kind) (λ m. stepped_fits c t s at kind))
 
 -- ---- the calls, where all fits
 
@@ -153,14 +148,14 @@ handed_fits : (c : Conn) (space : Space) → CalledFits (handed_out_of c space)
 unfolding handed_out_of
 handed_fits c space = holds CalledFits (ltb most_credit (next_of c space)) _ _ (λ t. record { not_120 = refl }) (λ t. record { not_120 = refl })
 
-gate_fits : (fit : Bool) (mark : Mark) → fit ≡ true → Fitting (gate_of fit mark).answer
+gate_fits : (fit : Bool) (mark : Mark) → fit ≡ true → Fitting (gate_of fit mark)
 unfolding gate_of
-gate_fits fit mark f = rw f (holds GateFits (not (is_open mark)) _ _ (λ e. record { not_120 = refl }) (λ e. record { not_120 = refl }))
+gate_fits fit mark f = rw f (holds Fitting (not (is_open mark)) _ _ (λ e. record { not_120 = refl }) (λ e. record { not_120 = refl }))
 
 module _ (h : State) (f : fits h.conn h.table ≡ true) where
   frame_fits : (s : List ℕ) (at : ℕ) (kind : Kind) → Fitting (answered h (TakeFrame s at kind))
   unfolding took_frame_of
-  frame_fits s at kind = holds FrameFits (gate_at h.conn h.table).passes _ _ (λ p. stepped_fits h.conn h.table s at kind) (λ p. gate_fits _ h.conn.mark f)
+  frame_fits s at kind = holds FrameFits (accepts (gate_at h.conn h.table)) _ _ (λ p. stepped_fits h.conn h.table s at kind) (λ p. gate_fits _ h.conn.mark f)
 
   packet_fits : (rs : Records) (first : ℕ) (s : List ℕ) → records_fit rs ≡ true → Fitting (answered h (TakePacket rs first s))
   unfolding took_of

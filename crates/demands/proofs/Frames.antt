@@ -18,19 +18,12 @@ use Rattle.answers.proofs.Accepts.{accepts_true}
 use Rattle.answers.proofs.Choice.{holds}
 use Rattle.answers.proofs.Distinct.{impossible}
 use Rattle.wire.specs.Number.{number_at, shortest, with_number}
-use Rattle.wire.specs.declared.Number.{Number}
-use Rattle.wire.specs.declared.Number.TheVariants as Number'
 use Rattle.layouts.specs.Layout.{known}
 use Rattle.fields.specs.Heads.{head_at}
 use Rattle.fields.specs.Parts.{parts_at, with_fields}
-use Rattle.fields.specs.declared.Fields.{Fields}
-use Rattle.fields.specs.declared.Fields.TheVariants as Fields'
-use Rattle.fields.specs.declared.Head.{Head}
-use Rattle.fields.specs.declared.Head.TheVariants as Head'
 use Rattle.frames.specs.declared.Frame.{Frame}
 use Rattle.kinds.specs.declared.Kind.{Kind}
 use Rattle.frames.specs.declared.Reading.{Reading}
-use Rattle.frames.specs.declared.Reading.TheVariants.{Got, Refused}
 use Rattle.admission.specs.Admission.{admitted}
 use Rattle.frames.specs.Fields.{frame_of, fields_at}
 use Rattle.frames.specs.Reading.{with_head, admitted_head, frame_at}
@@ -50,7 +43,6 @@ use Rattle.verdicts.specs.declared.Judged.{Judged}
 use Rattle.verdicts.specs.Verdict.{verdict_of, settled_of, judged_of}
 use Rattle.limits.specs.Fits.{fits}
 use Rattle.steps.specs.declared.Decided.{Decided}
-use Rattle.steps.specs.declared.Gate.{Gate}
 use Rattle.steps.specs.declared.Shown.TheVariants as Shown'
 use Rattle.steps.specs.declared.TookFrame.{TookFrame}
 use Rattle.steps.specs.Gate.{gate_of}
@@ -66,6 +58,12 @@ use Rattle.demands.specs.Hosts.{answered, acted, with_conn}
 use Rattle.demands.specs.Hosts.Act.{TakeFrame}
 use Rattle.demands.specs.Heard.{shown_by, asked, next_shown}
 use Rattle.demands.specs.Demand1.{type_at}
+use Rattle.std.specs.Prelude.{Option, Some, None, Result, Ok, Err}
+use Rattle.frames.specs.Fields.{read_as}
+use Rattle.frames.specs.Fields.{refused_as}
+use Rattle.fields.specs.Heads.{refusal}
+use Rattle.fields.specs.declared.Parts.{Parts}
+use Rattle.fields.specs.declared.Refusal.{Refusal}
 
 -- an entry set to itself
 pub same_table : (t : List Entry) (i : ℕ) → set t i (entry_at t i) ≡ t
@@ -78,9 +76,9 @@ closed h answer ty = with_conn h (marked_as h.conn (Code answer ty))
 -- ---- the codes of a refusal
 
 -- what holds of 7 and of 10 holds of the code of a reading that was refused
-abbrev pub IfRefused : (Answer → Type 0) → Reading → Type 0
-IfRefused P (Got frame ty next) = Unit
-IfRefused P (Refused answer ty) = P answer
+abbrev pub IfRefused : (Answer → Type 0) → Result Reading Refusal → Type 0
+IfRefused P (Ok r) = Unit
+IfRefused P (Err r) = P r.answer
 
 pub refused_with : (P : Answer → Type 0) → P FrameEncoding → P ProtocolViolation → (role : Role) (s : List ℕ) (at : ℕ) (kind : Kind) → IfRefused P (frame_at role s at kind)
 refused_with P seven ten role s at kind = go (frame_at role s at kind) refl
@@ -89,12 +87,17 @@ refused_with P seven ten role s at kind = go (frame_at role s at kind) refl
     code answer (inl e) = rw e seven
     code answer (inr e) = rw e ten
 
-    go : (r : Reading) → frame_at role s at kind ≡ r → IfRefused P r
-    go (Got frame ty next) e = tt
-    go (Refused answer ty) e = code answer (codes role s at kind e)
+    go : (r : Result Reading Refusal) → frame_at role s at kind ≡ r → IfRefused P r
+    go (Ok r) e = tt
+    go (Err r) e = code r.answer (codes role s at kind e)
+
+-- what a frame that was read asks of the streams; one that was not asks for nothing
+abbrev pub view_in : Role → Kind → Result Reading Refusal → View
+view_in role kind (Ok r) = view_of role kind r.frame
+view_in role kind (Err r) = Nothing
 
 -- it does not accept
-abbrev pub Refusing : Reading → Type 0
+abbrev pub Refusing : Result Reading Refusal → Type 0
 Refusing r = IfRefused (λ answer. accepts answer ≡ false) r
 
 pub refusing : (role : Role) (s : List ℕ) (at : ℕ) (kind : Kind) → Refusing (frame_at role s at kind)
@@ -145,37 +148,34 @@ module _ (P : Answer → Type 0) (k : Codes P) (c : Conn) where
 -- ---- what a frame leaves of a state, by the reading
 
 module _ (st : State) (kind : Kind) (at : ℕ) where
-  abbrev pub decided : Reading → Decided
+  abbrev pub decided : Result Reading Refusal → Decided
   decided r = decided_of st.conn (entry_at st.table (request_of st.conn.role kind at r).place) (request_of st.conn.role kind at r)
 
-  abbrev pub left : Reading → State
+  abbrev pub left : Result Reading Refusal → State
   left r = record { conn = (decided r).stepped.conn; table = set st.table (request_of st.conn.role kind at r).place (decided r).entry }
 
-  pub more_open : (r : Reading) → (decided r).stepped.more ≡ is_open (left r).conn.mark
+  pub more_open : (r : Result Reading Refusal) → is_open (decided r).stepped.conn.mark ≡ is_open (left r).conn.mark
   unfolding decided_of
-  more_open r = holds (λ (d : Decided). d.stepped.more ≡ is_open d.stepped.conn.mark) (accepts (request_of st.conn.role kind at r).answer) _ _ (λ e. refl) (λ e. refl)
+  more_open r = refl
 
   -- every answer to a frame is one of those codes
-  pub decided_with : (P : Answer → Type 0) → Codes P → (r : Reading) → IfRefused P r → P (decided r).stepped.answer
+  pub decided_with : (P : Answer → Type 0) → Codes P → (r : Result Reading Refusal) → IfRefused P r → P (decided r).stepped.answer
   unfolding decided_of request_of judged_of settled_of
-  decided_with P k (Got frame ty next) f = holds (λ (j : Judged). P j.answer) (accepts (verdict_of st.conn (entry_of st.table (stream_in (view_of st.conn.role kind frame))) (view_of st.conn.role kind frame))) _ _ (λ e. k.accepted) (λ e. verdict_with P k st.conn _ (view_of st.conn.role kind frame))
-  decided_with P k (Refused answer ty) f = holds (λ (d : Decided). P d.stepped.answer) (accepts answer) _ _ (λ e. judged_none) (λ e. f)
-    where
-      judged_none : P (judged_of st.conn (entry_at st.table 0) ty Nothing).answer
-      judged_none = holds (λ (j : Judged). P j.answer) (accepts (verdict_of st.conn (entry_at st.table 0) Nothing)) _ _ (λ e. k.accepted) (λ e. verdict_with P k st.conn _ Nothing)
+  decided_with P k (Ok r) f = holds (λ (j : Judged). P j.answer) (accepts (verdict_of st.conn (entry_of st.table (stream_in (view_of st.conn.role kind r.frame))) (view_of st.conn.role kind r.frame))) _ _ (λ e. k.accepted) (λ e. verdict_with P k st.conn _ (view_of st.conn.role kind r.frame))
+  decided_with P k (Err r) f = f
 
   -- a refused frame closes, and all else is as it was
-  pub shuts : (r : Reading) → Refusing r → accepts (decided r).stepped.answer ≡ false → left r ≡ closed st (decided r).stepped.answer (request_of st.conn.role kind at r).ty
+  pub shuts : (r : Result Reading Refusal) → Refusing r → accepts (decided r).stepped.answer ≡ false → left r ≡ closed st (decided r).stepped.answer (request_of st.conn.role kind at r).ty
   unfolding decided_of request_of judged_of settled_of
-  shuts (Got frame ty next) c = go (accepts (verdict_of st.conn e (view_of st.conn.role kind frame))) refl
+  shuts (Ok r) c = go (accepts (verdict_of st.conn e (view_of st.conn.role kind r.frame))) refl
     where
       e : Entry
-      e = entry_of st.table (stream_in (view_of st.conn.role kind frame))
+      e = entry_of st.table (stream_in (view_of st.conn.role kind r.frame))
 
-      go : (b : Bool) → accepts (verdict_of st.conn e (view_of st.conn.role kind frame)) ≡ b → accepts (decided (Got frame ty next)).stepped.answer ≡ false → left (Got frame ty next) ≡ closed st (decided (Got frame ty next)).stepped.answer ty
+      go : (b : Bool) → accepts (verdict_of st.conn e (view_of st.conn.role kind r.frame)) ≡ b → accepts (decided (Ok r)).stepped.answer ≡ false → left (Ok r) ≡ closed st (decided (Ok r)).stepped.answer r.ty
       go true d = rw d (λ f. impossible cc)
-      go false d = rw (d, same_table st.table (frame_place (view_of st.conn.role kind frame))) (λ f. refl)
-  shuts (Refused answer ty) c = rw (c, same_table st.table 0) (λ f. refl)
+      go false d = rw (d, same_table st.table (frame_place (view_of st.conn.role kind r.frame))) (λ f. refl)
+  shuts (Err r) c = rw (same_table st.table 0) (λ f. refl)
 
 -- ---- a connection that is open and whose table fits
 
@@ -190,78 +190,78 @@ ruled_answer h view v = rw (fits_test _ _ v.fit, v.still_open) refl
 
 module _ (h : State) (v : Live h) (kind : Kind) (at : ℕ) where
   -- an accepted frame leaves the state after its event, whose table fits
-  pub accepted_is : (r : Reading) → Refusing r → accepts (decided h kind at r).stepped.answer ≡ true
-      → (answer_of h (Heard (request_of h.conn.role kind at r).view) ≡ Accepted) × (left h kind at r ≡ after h (Heard (request_of h.conn.role kind at r).view))
+  pub accepted_is : (r : Result Reading Refusal) → Refusing r → accepts (decided h kind at r).stepped.answer ≡ true
+      → (answer_of h (Heard (view_in h.conn.role kind r)) ≡ Accepted) × (left h kind at r ≡ after h (Heard (view_in h.conn.role kind r)))
   unfolding decided_of request_of judged_of settled_of after conn_after entry_after
-  accepted_is (Got frame ty next) c = go (accepts (verdict_of h.conn (entry_of h.table (stream_in (view_of h.conn.role kind frame))) (view_of h.conn.role kind frame))) refl
+  accepted_is (Ok r) c = go (accepts (verdict_of h.conn (entry_of h.table (stream_in (view_of h.conn.role kind r.frame))) (view_of h.conn.role kind r.frame))) refl
     where
-      go : (b : Bool) → accepts (verdict_of h.conn (entry_of h.table (stream_in (view_of h.conn.role kind frame))) (view_of h.conn.role kind frame)) ≡ b → accepts (decided h kind at (Got frame ty next)).stepped.answer ≡ true
-          → (answer_of h (Heard (view_of h.conn.role kind frame)) ≡ Accepted) × (left h kind at (Got frame ty next) ≡ after h (Heard (view_of h.conn.role kind frame)))
-      go true e = rw e (λ a. (ruled_answer h (view_of h.conn.role kind frame) v ∙ accepts_true _ e, refl))
+      go : (b : Bool) → accepts (verdict_of h.conn (entry_of h.table (stream_in (view_of h.conn.role kind r.frame))) (view_of h.conn.role kind r.frame)) ≡ b → accepts (decided h kind at (Ok r)).stepped.answer ≡ true
+          → (answer_of h (Heard (view_of h.conn.role kind r.frame)) ≡ Accepted) × (left h kind at (Ok r) ≡ after h (Heard (view_of h.conn.role kind r.frame)))
+      go true e = rw e (λ a. (ruled_answer h (view_of h.conn.role kind r.frame) v ∙ accepts_true _ e, refl))
       go false e = rw e (λ a. impossible cc)
-  accepted_is (Refused answer ty) c = rw c (λ a. impossible cc)
+  accepted_is (Err r) c = λ a. absurd (not_both _ a c)
 
-  pub accepted_fits : (r : Reading) → Refusing r → accepts (decided h kind at r).stepped.answer ≡ true → Fits (left h kind at r).conn (left h kind at r).table
-  accepted_fits r c a = let w = accepted_is r c a in subst (λ (x : State). Fits x.conn x.table) (sym w.1) (step_fits h (Heard (request_of h.conn.role kind at r).view) v.fit w.0)
+  pub accepted_fits : (r : Result Reading Refusal) → Refusing r → accepts (decided h kind at r).stepped.answer ≡ true → Fits (left h kind at r).conn (left h kind at r).table
+  accepted_fits r c a = let w = accepted_is r c a in subst (λ (x : State). Fits x.conn x.table) (sym w.1) (step_fits h (Heard (view_in h.conn.role kind r)) v.fit w.0)
 
 -- ---- the call for it
 
-gate_open : (fit : Bool) (mark : Mark) → fit ≡ true → is_open mark ≡ true → (gate_of fit mark).passes ≡ true
+gate_open : (fit : Bool) (mark : Mark) → fit ≡ true → is_open mark ≡ true → accepts (gate_of fit mark) ≡ true
 unfolding gate_of
 gate_open fit mark f p = rw (f, p) refl
 
-pub gate_passes : (fit : Bool) (mark : Mark) → (gate_of fit mark).passes ≡ true → is_open mark ≡ true
+pub gate_passes : (fit : Bool) (mark : Mark) → accepts (gate_of fit mark) ≡ true → is_open mark ≡ true
 unfolding gate_of
 gate_passes fit mark =
-    holds (λ (g : Gate). g.passes ≡ true → is_open mark ≡ true) (not fit) _ _ (λ e p. impossible cc) (λ e.
-    holds (λ (g : Gate). g.passes ≡ true → is_open mark ≡ true) (not (is_open mark)) _ _ (λ f p. impossible cc) (λ f p. not-false _ f))
+    holds (λ (g : Answer). accepts g ≡ true → is_open mark ≡ true) (not fit) _ _ (λ e p. impossible cc) (λ e.
+    holds (λ (g : Answer). accepts g ≡ true → is_open mark ≡ true) (not (is_open mark)) _ _ (λ f p. impossible cc) (λ f p. not-false _ f))
 
 -- what does not pass the gate is refused with 120 or 101
-pub gate_with : (P : Answer → Type 0) → P DoesNotFit → P Closed → (fit : Bool) (mark : Mark) → (gate_of fit mark).passes ≡ false → P (gate_of fit mark).answer
+pub gate_with : (P : Answer → Type 0) → P DoesNotFit → P Closed → (fit : Bool) (mark : Mark) → accepts (gate_of fit mark) ≡ false → P (gate_of fit mark)
 unfolding gate_of
 gate_with P unfit closed fit mark =
-    holds (λ (g : Gate). g.passes ≡ false → P g.answer) (not fit) _ _ (λ e p. unfit) (λ e.
-    holds (λ (g : Gate). g.passes ≡ false → P g.answer) (not (is_open mark)) _ _ (λ f p. closed) (λ f p. impossible cc))
+    holds (λ (g : Answer). accepts g ≡ false → P g) (not fit) _ _ (λ e p. unfit) (λ e.
+    holds (λ (g : Answer). accepts g ≡ false → P g) (not (is_open mark)) _ _ (λ f p. closed) (λ f p. impossible cc))
 
 module _ (h : State) (s : List ℕ) (at : ℕ) (kind : Kind) where
   abbrev pub stepped : TookFrame
   stepped = record { answer = (decided h kind at (frame_at h.conn.role s at kind)).stepped.answer; shown = shown_at h.conn.role s at kind; conn = (left h kind at (frame_at h.conn.role s at kind)).conn }
 
-  pub took_is : (gate_at h.conn h.table).passes ≡ true → took_frame_of h.conn h.table s at kind ≡ stepped
+  pub took_is : accepts (gate_at h.conn h.table) ≡ true → took_frame_of h.conn h.table s at kind ≡ stepped
   unfolding took_frame_of decided_at request_at
-  took_is p = holds (λ (x : TookFrame). x ≡ stepped) (gate_at h.conn h.table).passes _ _ (λ g. refl) (λ g. absurd (not_both _ p g))
+  took_is p = holds (λ (x : TookFrame). x ≡ stepped) (accepts (gate_at h.conn h.table)) _ _ (λ g. refl) (λ g. absurd (not_both _ p g))
 
-  table_is : (gate_at h.conn h.table).passes ≡ true → frame_table h.conn h.table s at kind ≡ (left h kind at (frame_at h.conn.role s at kind)).table
+  table_is : accepts (gate_at h.conn h.table) ≡ true → frame_table h.conn h.table s at kind ≡ (left h kind at (frame_at h.conn.role s at kind)).table
   unfolding frame_table decided_at request_at
-  table_is p = holds (λ (x : List Entry). x ≡ (left h kind at (frame_at h.conn.role s at kind)).table) (gate_at h.conn h.table).passes _ _ (λ g. refl) (λ g. absurd (not_both _ p g))
+  table_is p = holds (λ (x : List Entry). x ≡ (left h kind at (frame_at h.conn.role s at kind)).table) (accepts (gate_at h.conn h.table)) _ _ (λ g. refl) (λ g. absurd (not_both _ p g))
 
-  pub left_is : (gate_at h.conn h.table).passes ≡ true → acted h (TakeFrame s at kind) ≡ left h kind at (frame_at h.conn.role s at kind)
+  pub left_is : accepts (gate_at h.conn h.table) ≡ true → acted h (TakeFrame s at kind) ≡ left h kind at (frame_at h.conn.role s at kind)
   left_is p = λ j. record { conn = (took_is p j).conn; table = table_is p j }
 
   -- what does not pass the gate is refused, and changes nothing
-  pub barred : (gate_at h.conn h.table).passes ≡ false → (answered h (TakeFrame s at kind) ≡ (gate_at h.conn h.table).answer) × (acted h (TakeFrame s at kind) ≡ h)
+  pub barred : accepts (gate_at h.conn h.table) ≡ false → (answered h (TakeFrame s at kind) ≡ gate_at h.conn h.table) × (acted h (TakeFrame s at kind) ≡ h)
   unfolding took_frame_of frame_table
   barred g = (ap (λ (x : TookFrame). x.answer) conn_is, λ j. record { conn = (conn_is j).conn; table = same_is j })
     where
       none : TookFrame
-      none = record { answer = (gate_at h.conn h.table).answer; shown = Shown'.Nothing; conn = h.conn }
+      none = record { answer = gate_at h.conn h.table; shown = Shown'.Nothing; conn = h.conn }
 
       conn_is : took_frame_of h.conn h.table s at kind ≡ none
-      conn_is = holds (λ (x : TookFrame). x ≡ none) (gate_at h.conn h.table).passes _ _ (λ p. absurd (not_both _ p g)) (λ p. refl)
+      conn_is = holds (λ (x : TookFrame). x ≡ none) (accepts (gate_at h.conn h.table)) _ _ (λ p. absurd (not_both _ p g)) (λ p. refl)
 
       same_is : frame_table h.conn h.table s at kind ≡ h.table
-      same_is = holds (λ (x : List Entry). x ≡ h.table) (gate_at h.conn h.table).passes _ _ (λ p. absurd (not_both _ p g)) (λ p. refl)
+      same_is = holds (λ (x : List Entry). x ≡ h.table) (accepts (gate_at h.conn h.table)) _ _ (λ p. absurd (not_both _ p g)) (λ p. refl)
 
   -- an accepted frame passed the gate
-  pub passed_gate : accepts (answered h (TakeFrame s at kind)) ≡ true → (gate_at h.conn h.table).passes ≡ true
-  passed_gate a = go (gate_at h.conn h.table).passes refl
+  pub passed_gate : accepts (answered h (TakeFrame s at kind)) ≡ true → accepts (gate_at h.conn h.table) ≡ true
+  passed_gate a = go (accepts (gate_at h.conn h.table)) refl
     where
-      go : (b : Bool) → (gate_at h.conn h.table).passes ≡ b → (gate_at h.conn h.table).passes ≡ true
+      go : (b : Bool) → accepts (gate_at h.conn h.table) ≡ b → accepts (gate_at h.conn h.table) ≡ true
       go true g = g
       go false g = absurd (not_both _ (ap accepts (sym (barred g).0) ∙ a) (gate_with (λ answer. accepts answer ≡ false) refl refl (fits h.conn h.table) h.conn.mark g))
 
 module _ (h : State) (v : Live h) (s : List ℕ) (at : ℕ) (kind : Kind) where
-  gate : (gate_at h.conn h.table).passes ≡ true
+  gate : accepts (gate_at h.conn h.table) ≡ true
   gate = gate_open (fits h.conn h.table) h.conn.mark (fits_test _ _ v.fit) v.still_open
 
   pub answer_is : answered h (TakeFrame s at kind) ≡ (decided h kind at (frame_at h.conn.role s at kind)).stepped.answer
@@ -278,7 +278,7 @@ pub record Whole (kind : Kind) (at : ℕ) (s : List ℕ) (h : State) : Type 0 wh
   pub frame : Frame
   pub ty : ℕ
   pub next : ℕ
-  pub reads : frame_at h.conn.role s at kind ≡ Got frame ty next
+  pub reads : frame_at h.conn.role s at kind ≡ read_as frame ty next
   pub asks : asked h.conn.role kind (shown_at h.conn.role s at kind) ≡ view_of h.conn.role kind frame ∷ []
   pub follows : next_shown at (shown_at h.conn.role s at kind) ≡ next
   pub goes : next_shown at (shown_at h.conn.role s at kind) ≡ (decided h kind at (frame_at h.conn.role s at kind)).stepped.next
@@ -287,47 +287,43 @@ pub whole : (h : State) (s : List ℕ) (at : ℕ) (kind : Kind) → accepts (dec
 unfolding shown_at shown_of request_of decided_of
 whole h s at kind a = go (frame_at h.conn.role s at kind) refl (refusing h.conn.role s at kind) a
   where
-    go : (r : Reading) → frame_at h.conn.role s at kind ≡ r → Refusing r → accepts (decided h kind at r).stepped.answer ≡ true → Whole kind at s h
-    go (Got frame ty next) e c = λ b. record { frame = frame; ty = ty; next = next; reads = e; asks = rw e refl; follows = rw e refl; goes = rw e (next_of_law (accepts (request_of h.conn.role kind at (Got frame ty next)).answer)) }
-      where
-        next_of_law : (b : Bool) → next ≡ (b ⇒ decided h kind at (Got frame ty next) ∣ decided h kind at (Got frame ty next)).stepped.next
-        next_of_law true = refl
-        next_of_law false = refl
-    go (Refused answer ty) e c = rw c (λ b. impossible cc)
+    go : (r : Result Reading Refusal) → frame_at h.conn.role s at kind ≡ r → Refusing r → accepts (decided h kind at r).stepped.answer ≡ true → Whole kind at s h
+    go (Ok r) e c = λ b. record { frame = r.frame; ty = r.ty; next = r.next; reads = e; asks = rw e refl; follows = rw e refl; goes = rw e refl }
+    go (Err r) e c = λ b. absurd (not_both _ b c)
 
 -- ---- the type
 
 -- the type of a reading is the number that stands at the place, and 0 where none can be read
-abbrev TypeIs : ℕ → Reading → Type 0
-TypeIs n (Got frame ty next) = ty ≡ n
-TypeIs n (Refused answer ty) = ty ≡ n
+abbrev TypeIs : ℕ → Result Reading Refusal → Type 0
+TypeIs n (Ok r) = r.ty ≡ n
+TypeIs n (Err r) = r.ty ≡ n
 
 fields_type : (s : List ℕ) (at ty : ℕ) → TypeIs ty (fields_at s at ty)
 unfolding fields_at
 fields_type s at ty = go (parts_at s at ty)
   where
-    go : (p : Fields) → TypeIs ty (with_fields p (Refused FrameEncoding ty) (λ q next. Got (frame_of q) ty next))
-    go (Fields'.Are parts next) = refl
-    go Fields'.Wrong = refl
+    go : (p : Option (Parts × ℕ)) → TypeIs ty (with_fields p (refused_as FrameEncoding ty) (λ q next. read_as (frame_of q) ty next))
+    go (Some (parts, next)) = refl
+    go None = refl
 
 reading_type : (role : Role) (s : List ℕ) (at : ℕ) (kind : Kind) → TypeIs (type_at s at) (frame_at role s at kind)
 unfolding frame_at head_at
 reading_type role s at kind = go (number_at s at)
   where
-    body : Number → Head
-    body n = with_number n (Head'.Refused FrameEncoding 0) (λ ty next. not (shortest at ty next) ⇒ Head'.Refused ProtocolViolation ty ∣ not (known ty) ⇒ Head'.Refused FrameEncoding ty ∣ Head'.Type ty next)
+    body : Option (ℕ × ℕ) → Result (ℕ × ℕ) Refusal
+    body n = with_number n (Err (refusal FrameEncoding 0)) (λ ty next. not (shortest at ty next) ⇒ Err (refusal ProtocolViolation ty) ∣ not (known ty) ⇒ Err (refusal FrameEncoding ty) ∣ Ok (ty, next))
 
-    go : (n : Number) → TypeIs (with_number n 0 (λ ty next. ty)) (with_head (admitted_head role kind (body n)) (λ ty next. fields_at s next ty))
-    go (Number'.Is ty next) =
-        holds (λ (x : Head). TypeIs ty (with_head (admitted_head role kind x) (λ ty next. fields_at s next ty))) (not (shortest at ty next)) _ _ (λ e. refl) (λ e.
-        holds (λ (x : Head). TypeIs ty (with_head (admitted_head role kind x) (λ ty next. fields_at s next ty))) (not (known ty)) _ _ (λ f. refl) (λ f.
-        holds (λ (x : Head). TypeIs ty (with_head x (λ ty next. fields_at s next ty))) (not (admitted role kind ty)) _ _ (λ g. refl) (λ g. fields_type s next ty)))
-    go Number'.CutShort = refl
+    go : (n : Option (ℕ × ℕ)) → TypeIs (with_number n 0 (λ ty next. ty)) (with_head (admitted_head role kind (body n)) (λ ty next. fields_at s next ty))
+    go (Some (ty, next)) =
+        holds (λ (x : Result (ℕ × ℕ) Refusal). TypeIs ty (with_head (admitted_head role kind x) (λ ty next. fields_at s next ty))) (not (shortest at ty next)) _ _ (λ e. refl) (λ e.
+        holds (λ (x : Result (ℕ × ℕ) Refusal). TypeIs ty (with_head (admitted_head role kind x) (λ ty next. fields_at s next ty))) (not (known ty)) _ _ (λ f. refl) (λ f.
+        holds (λ (x : Result (ℕ × ℕ) Refusal). TypeIs ty (with_head x (λ ty next. fields_at s next ty))) (not (admitted role kind ty)) _ _ (λ g. refl) (λ g. fields_type s next ty)))
+    go None = refl
 
 pub type_is : (role : Role) (s : List ℕ) (at : ℕ) (kind : Kind) → (request_of role kind at (frame_at role s at kind)).ty ≡ type_at s at
 unfolding request_of
 type_is role s at kind = go (frame_at role s at kind) (reading_type role s at kind)
   where
-    go : (r : Reading) → TypeIs (type_at s at) r → (request_of role kind at r).ty ≡ type_at s at
-    go (Got frame ty next) e = e
-    go (Refused answer ty) e = e
+    go : (r : Result Reading Refusal) → TypeIs (type_at s at) r → (request_of role kind at r).ty ≡ type_at s at
+    go (Ok r) e = e
+    go (Err r) e = e

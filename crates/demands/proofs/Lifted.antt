@@ -58,8 +58,10 @@ use Rattle.demands.specs.Hosts.Act.{TakeFrame, TakePacket, Make, HandOut}
 use Rattle.demands.specs.Heard.{Run, ended, one_by_one, frames_in, calls_of, onto, noted, heard_after, heard_by}
 use Rattle.demands.specs.Packets.{Enters}
 use Rattle.demands.specs.Demand1.{closes, leaves}
-use Rattle.demands.proofs.Frames.{same_table, closed, refusing, decided, shuts, Live, accepted_is, answer_is, acted_is, barred, passed_gate, gate_passes}
+use Rattle.demands.proofs.Frames.{view_in, same_table, closed, refusing, decided, shuts, Live, accepted_is, answer_is, acted_is, barred, passed_gate, gate_passes}
 use Rattle.demands.proofs.OneByOne.{by_frames, is_frames, frames_are, header_refused, entered}
+use Rattle.std.specs.Prelude.{Result}
+use Rattle.fields.specs.declared.Refusal.{Refusal}
 
 -- ---- states
 
@@ -112,7 +114,7 @@ module _ (role : Role) (o : Limits) (l : List Event) (h : State) (w : Lifted rol
     goes_in e a =
         let d = ap accepts (sym (answer_is h live s at kind)) ∙ a in
         let r = accepted_is h live kind at (frame_at h.conn.role s at kind) (refusing h.conn.role s at kind) d in
-        let view : (request_of h.conn.role kind at (frame_at h.conn.role s at kind)).view ≡ view_of h.conn.role kind e.frame = ap (λ (y : Reading). (request_of h.conn.role kind at y).view) e.reads in
+        let view : (view_in h.conn.role kind (frame_at h.conn.role s at kind)) ≡ view_of h.conn.role kind e.frame = ap (λ (y : Result Reading Refusal). (view_in h.conn.role kind y)) e.reads in
         let q : answer_of h (Heard (view_of h.conn.role kind e.frame)) ≡ Accepted = ap (λ v. answer_of h (Heard v)) (sym view) ∙ r.0 in
         let u : acted h x ≡ after h (Heard (view_of h.conn.role kind e.frame)) = acted_is h live s at kind ∙ r.1 ∙ ap (λ v. after h (Heard v)) view in
         subst (λ (m : List Event). Lifted role o m (acted h x)) (sym e.enters)
@@ -128,9 +130,9 @@ module _ (role : Role) (o : Limits) (l : List Event) (h : State) (w : Lifted rol
         (record { accepted = w.accepted; follows = shut _ _ }))
 
   pub frame : Lifted role o (noted h x l) (acted h x)
-  frame = go (gate_at h.conn h.table).passes refl (accepts (answered h x)) refl
+  frame = go (accepts (gate_at h.conn h.table)) refl (accepts (answered h x)) refl
     where
-      go : (b : Bool) → (gate_at h.conn h.table).passes ≡ b → (a : Bool) → accepts (answered h x) ≡ a → Lifted role o (noted h x l) (acted h x)
+      go : (b : Bool) → accepts (gate_at h.conn h.table) ≡ b → (a : Bool) → accepts (answered h x) ≡ a → Lifted role o (noted h x l) (acted h x)
       go true g true a = goes_in (gate_passes _ _ g) ((entered h s at kind l).if_accepted a) a
       go true g false a = goes_out (gate_passes _ _ g) a
       go false g true a = absurd (not_both _ (passed_gate h s at kind a) g)

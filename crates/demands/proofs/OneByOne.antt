@@ -52,7 +52,7 @@ use Rattle.demands.specs.Demand1.{leaves}
 use Rattle.demands.specs.Packets.{OneByOne, IsFrames, Enters, Entered}
 use Rattle.demands.proofs.Begins.{Begins, begins}
 use Rattle.demands.proofs.Begins.Begins.{goes, shuts as closing, stays}
-use Rattle.demands.proofs.Frames.{accepted_is, refusing, left, more_open, shuts, Live, accepted_fits, stepped, took_is, passed_gate, answer_is, acted_is, shown_is, Whole, whole}
+use Rattle.demands.proofs.Frames.{accepted_is, refusing, more_open, shuts, Live, accepted_fits, stepped, took_is, passed_gate, answer_is, acted_is, shown_is, Whole, whole}
 
 -- ---- the walk
 
@@ -81,7 +81,7 @@ module _ (h : State) (v : Live h) (s : List ℕ) (at : ℕ) (kind : Kind) where
   abbrev goes_on : (State → ℕ → Walked) → Walked
   goes_on w = w (record { conn = (stepped_at h.conn h.table s at kind).conn; table = step_table h.conn h.table s at kind }) (stepped_at h.conn h.table s at kind).next
 
-  more_is : (stepped_at h.conn h.table s at kind).more ≡ is_open (acted h x).conn.mark
+  more_is : is_open (stepped_at h.conn h.table s at kind).conn.mark ≡ is_open (acted h x).conn.mark
   unfolding decided_at request_at
   more_is = more_open h kind at (frame_at h.conn.role s at kind) ∙ ap (λ (y : State). is_open y.conn.mark) (sym (acted_is h v s at kind))
 
@@ -116,7 +116,7 @@ module _ (h : State) (v : Live h) (s : List ℕ) (at : ℕ) (kind : Kind) where
         ∣ after x (asked h.conn.role kind (shown_by h s at kind)) (not (is_open (acted h x).conn.mark) ⇒ ended at ∣ run (acted h x) (next_shown at (shown_by h s at kind)))
 
     abbrev walked : Walked
-    walked = (stepped_at h.conn h.table s at kind).more ⇒ goes_on walk ∣ stop_here
+    walked = is_open (stepped_at h.conn h.table s at kind).conn.mark ⇒ goes_on walk ∣ stop_here
 
     state_here : state_at stop_here ≡ acted h x
     unfolding decided_at request_at

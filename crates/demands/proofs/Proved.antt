@@ -22,7 +22,6 @@ use Rattle.frames.specs.declared.Frame.TheVariants.{Stream, ResetStream}
 use Rattle.kinds.specs.declared.Kind.{Kind}
 use Rattle.kinds.specs.declared.Kind.TheVariants.{OneRtt}
 use Rattle.frames.specs.declared.Reading.{Reading}
-use Rattle.frames.specs.declared.Reading.TheVariants.{Got}
 use Rattle.frames.specs.Reading.{frame_at}
 use Rattle.frames.proofs.Sound.{frame_got}
 use Rattle.roundtrip.proofs.Readers.{stream_end}
@@ -77,6 +76,9 @@ use Rattle.demands.proofs.OneByOne.{found, is_live, is_frames, frames_are, heade
 use Rattle.demands.proofs.Lifted.{Follows, Lifted, open_same, four_of, role_of, lifted}
 use Rattle.demands.proofs.Lifted.Follows.{same, shut}
 use Rattle.demands.proofs.Fitting.{answer_fits}
+use Rattle.std.specs.Prelude.{Result}
+use Rattle.frames.specs.Fields.{read_as}
+use Rattle.fields.specs.declared.Refusal.{Refusal}
 
 -- ---- what is told of a history's state, and does not look at the mark, holds of that state closed
 
@@ -99,15 +101,15 @@ record Read (role : Role) (s : List ℕ) (at : ℕ) (kind : Kind) (id end : ℕ)
   frame : Frame
   ty : ℕ
   next : ℕ
-  reads : frame_at role s at kind ≡ Got frame ty next
+  reads : frame_at role s at kind ≡ read_as frame ty next
   ends : view_of role kind frame ≡ Ends id end fin
 
-read_as : (role : Role) (s : List ℕ) (at : ℕ) (kind : Kind) (id end : ℕ) (fin : Bool) → Names role s at kind id end fin → Read role s at kind id end fin
+as_read : (role : Role) (s : List ℕ) (at : ℕ) (kind : Kind) (id end : ℕ) (fin : Bool) → Names role s at kind id end fin → Read role s at kind id end fin
 unfolding end_of
-read_as role s at kind _ _ _ (stream id offset len fin place ty next e) =
+as_read role s at kind _ _ _ (stream id offset len fin place ty next e) =
     let l = stream_end s at (frame_got role s at kind e).1 in
     record { frame = Stream id offset fin place len; ty = ty; next = next; reads = e; ends = rw (le-ltb (2 ^ 64 - 1) (offset + len) (omega arith)) refl }
-read_as role s at kind _ _ _ (reset id code size ty next e) = record { frame = ResetStream id code size; ty = ty; next = next; reads = e; ends = refl }
+as_read role s at kind _ _ _ (reset id code size ty next e) = record { frame = ResetStream id code size; ty = ty; next = next; reads = e; ends = refl }
 
 pub settled_answer : (answer : Answer) (c : Conn) (e : Entry) (ty : ℕ) (conn : Conn) (entry : Entry) → (settled_of answer c e ty conn entry).answer ≡ answer
 unfolding settled_of
@@ -116,8 +118,8 @@ settled_answer answer c e ty conn entry = holds (λ (j : Judged). j.answer ≡ a
 ends_answer : (h : State) → Live h → (s : List ℕ) (at : ℕ) (kind : Kind) (id end : ℕ) (fin : Bool) → Names h.conn.role s at kind id end fin → answered h (TakeFrame s at kind) ≡ answer_of h (Heard (Ends id end fin))
 unfolding decided_of request_of judged_of
 ends_answer h v s at kind id end fin m =
-    let n = read_as h.conn.role s at kind id end fin m in
-    answer_is h v s at kind ∙ ap (λ (r : Reading). (decided h kind at r).stepped.answer) n.reads ∙ settled_answer (verdict_of h.conn (entry_of h.table (stream_in (view_of h.conn.role kind n.frame))) (view_of h.conn.role kind n.frame)) h.conn _ n.ty _ _
+    let n = as_read h.conn.role s at kind id end fin m in
+    answer_is h v s at kind ∙ ap (λ (r : Result Reading Refusal). (decided h kind at r).stepped.answer) n.reads ∙ settled_answer (verdict_of h.conn (entry_of h.table (stream_in (view_of h.conn.role kind n.frame))) (view_of h.conn.role kind n.frame)) h.conn _ n.ty _ _
     ∙ sym (ruled_answer h (view_of h.conn.role kind n.frame) v) ∙ ap (λ (w : View). answer_of h (Heard w)) n.ends
 
 -- ---- the numbers that are handed out
@@ -261,7 +263,7 @@ heard_whole (suc k) h v s at kind =
         ap (λ (l : List View). asked h.conn.role kind (shown_by h s at kind) ++ l) (ih (not-false _ o) p)
         ∙ ap (λ (l : List View). l ++ frames_from h.conn.role k s (next_shown at (shown_by h s at kind)) kind) (ap (asked h.conn.role kind) (shown_is h v s at kind) ∙ w.asks)
         ∙ ap (λ (m : ℕ). view_of h.conn.role kind w.frame ∷ frames_from h.conn.role k s m kind) n
-        ∙ sym (ap (λ (r : Reading). with_frame r [] (λ frame next. view_of h.conn.role kind frame ∷ frames_from h.conn.role k s next kind)) w.reads))
+        ∙ sym (ap (λ (r : Result Reading Refusal). with_frame r [] (λ frame next. view_of h.conn.role kind frame ∷ frames_from h.conn.role k s next kind)) w.reads))
 
 frames_none : (role : Role) (k : ℕ) (s : List ℕ) (kind : Kind) → frames_from role k s (length s) kind ≡ []
 unfolding frames_from

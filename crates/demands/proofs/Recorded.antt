@@ -1,6 +1,6 @@
 -- An accepted packet's number is recorded: every check was passed, so that its record takes it.
 -- Assumes nothing.
-use Prim.Native.Nat.{ℕ, ◌-◌, ◌^◌, ◌<◌}
+use Prim.Native.Nat.{ℕ, ◌^◌, ◌<◌}
 use mathlib.Core.Path.{◌≡◌, refl, sym, ◌∙◌, ap}
 use mathlib.Core.Bool.{Bool, true, false, not, ◌&&◌, and-eq-true_iff, true≢false}
 use mathlib.Core.List.{List}
@@ -14,8 +14,6 @@ use Rattle.answers.proofs.Choice.{holds}
 use Rattle.wire.specs.Number.{big_endian}
 use Rattle.kinds.specs.declared.Kind.{Kind}
 use Rattle.numbers.specs.Numbers.{bytes_in, window_of, nearest_of, recovered_of}
-use Rattle.numbers.specs.declared.Recovered.{Recovered}
-use Rattle.numbers.specs.declared.Recovered.TheVariants as Recovered'
 use Rattle.records.specs.declared.Record.{Record}
 use Rattle.records.specs.declared.Taken.{Taken}
 use Rattle.records.specs.Marks.{test_of, check_of}
@@ -32,8 +30,6 @@ use Rattle.answers.proofs.Accepts.{accepts_true}
 use Rattle.packets.specs.declared.Begun.{Begun}
 use Rattle.spaces.specs.declared.Records.{Records}
 use Rattle.steps.specs.declared.Stopped.{Stopped}
-use Rattle.headers.specs.declared.Header.{Header}
-use Rattle.headers.specs.declared.Header.TheVariants as Header'
 use Rattle.headers.specs.First.{header_of, size_in, reserved_of}
 use Rattle.spaces.specs.Spaces.{record_of, with_record, records_fit, recorded_of}
 use Rattle.spaces.proofs.Each.{each}
@@ -42,6 +38,7 @@ use Rattle.endings.specs.Finish.{finish_of}
 use Rattle.receive.specs.Taking.{begun_of, took_of}
 use Rattle.walks.specs.Walk.{stopped_of}
 use Rattle.demands.specs.Recorded.{NumberRecorded}
+use Rattle.std.specs.Prelude.{Option, Some, None, Result, Ok, Err}
 
 module _ (c : Conn) (rs : Records) (byte : ℕ) (s : List ℕ) where
   -- what is known of the number of a packet that goes on to its frames
@@ -72,13 +69,13 @@ module _ (c : Conn) (rs : Records) (byte : ℕ) (s : List ℕ) where
     unfolding in_space_of recovered_of
     space_sure kind =
         holds Sure (ltb (length s) (bytes_in (size_in byte))) _ _ (λ _. left_sure c NoPacket refl) (λ _.
-        holds (λ (r : Recovered). Sure (with_recovered r (λ answer. refused_of c answer (length s)) (λ number. tested_of c (test_of (record_of rs (space_of kind)) number) kind number byte (bytes_in (size_in byte)) (length s))))
-        (ltb (nearest_of (record_of rs (space_of kind)).top (window_of (size_in byte)) (big_endian s 0 (bytes_in (size_in byte)))) (2 ^ 62)) (Recovered'.Is _) (Recovered'.Refused NoSuchNumber)
+        holds (λ (r : Result ℕ Answer). Sure (with_recovered r (λ answer. refused_of c answer (length s)) (λ number. tested_of c (test_of (record_of rs (space_of kind)) number) kind number byte (bytes_in (size_in byte)) (length s))))
+        (ltb (nearest_of (record_of rs (space_of kind)).top (window_of (size_in byte)) (big_endian s 0 (bytes_in (size_in byte)))) (2 ^ 62)) (Ok _) (Err NoSuchNumber)
         (λ b. numbered_sure kind _ _ (ltb-true _ _ b)) (λ _. left_sure c NoSuchNumber refl))
 
-    kind_sure : (r : Header) → Sure (with_kind r (refused_of c NoPacket (length s)) (λ kind. in_space_of c (record_of rs (space_of kind)) kind byte s))
-    kind_sure (Header'.Carries kind) = space_sure kind
-    kind_sure Header'.NoPacket = left_sure c NoPacket refl
+    kind_sure : (r : Option Kind) → Sure (with_kind r (refused_of c NoPacket (length s)) (λ kind. in_space_of c (record_of rs (space_of kind)) kind byte s))
+    kind_sure (Some kind) = space_sure kind
+    kind_sure None = left_sure c NoPacket refl
 
   pub begin_sure : (whole : Bool) → Sure (begin_of c rs whole byte s)
   unfolding begin_of

@@ -16,9 +16,6 @@ use Rattle.answers.specs.declared.Answer.TheVariants.{Accepted, DoesNotFit}
 use Rattle.answers.proofs.Choice.{holds}
 use Rattle.wire.specs.Number.{with_number}
 use Rattle.wire.specs.Writing.{Draft, writes, number_draft}
-use Rattle.wire.specs.declared.Number.{Number}
-use Rattle.wire.specs.declared.Wrote.{Wrote}
-use Rattle.wire.specs.declared.Wrote.TheVariants as Wrote'
 use Rattle.wire.proofs.Forms as forms
 use Rattle.wire.proofs.Writing as writing
 use Rattle.row.specs.Row.{row_draft}
@@ -57,11 +54,12 @@ use Rattle.accounts.specs.History.{State}
 use Rattle.accounts.proofs.Tests.{not_both}
 use Rattle.demands.specs.Hosts.{answered, acted, with_conn, with_both, place_told, kept}
 use Rattle.demands.specs.Hosts.Act.{TakeFrame, TakePacket, Make, HandOut}
-use Rattle.demands.specs.Heard.{Run, after, one_by_one, frames_in, calls_of}
+use Rattle.demands.specs.Heard.{Run, one_by_one, frames_in, calls_of}
 use Rattle.demands.specs.Demand1.{wrote_answer, closes, leaves, type_at, Left, Demand1}
 use Rattle.demands.specs.Demand1.Asked.{OfHost, Open, RecordNumber, WriteNumber, WriteRow, WriteFrame, Acknowledge}
-use Rattle.demands.proofs.Frames.{same_table, closed, refused_with, refusing, Codes, decided, left, decided_with, shuts, gate_with, took_is, left_is, barred, type_is}
+use Rattle.demands.proofs.Frames.{same_table, closed, refused_with, refusing, Codes, decided, decided_with, shuts, gate_with, took_is, left_is, barred, type_is}
 use Rattle.demands.proofs.OneByOne.{by_frames, is_frames, frames_are, header_refused}
+use Rattle.std.specs.Prelude.{Option, Result, Ok, Err}
 
 -- an acceptance is no refusal
 none : {G : Type 0} → accepts Accepted ≡ false → G
@@ -84,12 +82,12 @@ leaves_same : (h : State) (answer : Answer) (ty : ℕ) → closes answer ≡ fal
 leaves_same h answer ty k = rw k refl
 
 frame_left : (h : State) (s : List ℕ) (at : ℕ) (kind : Kind) → accepts (answered h (TakeFrame s at kind)) ≡ false → acted h (TakeFrame s at kind) ≡ leaves (answered h (TakeFrame s at kind)) (type_at s at) h
-frame_left h s at kind e = go (gate_at h.conn h.table).passes refl
+frame_left h s at kind e = go (accepts (gate_at h.conn h.table)) refl
   where
     answer : Answer
     answer = (decided h kind at (frame_at h.conn.role s at kind)).stepped.answer
 
-    go : (b : Bool) → (gate_at h.conn h.table).passes ≡ b → acted h (TakeFrame s at kind) ≡ leaves (answered h (TakeFrame s at kind)) (type_at s at) h
+    go : (b : Bool) → accepts (gate_at h.conn h.table) ≡ b → acted h (TakeFrame s at kind) ≡ leaves (answered h (TakeFrame s at kind)) (type_at s at) h
     go true g =
         let t = ap (λ (x : TookFrame). x.answer) (took_is h s at kind g) in
         let refused = ap accepts (sym t) ∙ e in
@@ -98,7 +96,7 @@ frame_left h s at kind e = go (gate_at h.conn h.table).passes refl
         ∙ ap (closed h answer) (type_is h.conn.role s at kind) ∙ leaves_shut h answer (type_at s at) k ∙ ap (λ (x : Answer). leaves x (type_at s at) h) (sym t)
     go false g =
         let b = barred h s at kind g in
-        b.1 ∙ leaves_same h (gate_at h.conn h.table).answer (type_at s at) (gate_with (λ x. closes x ≡ false) refl refl (fits h.conn h.table) h.conn.mark g) ∙ ap (λ (x : Answer). leaves x (type_at s at) h) (sym b.0)
+        b.1 ∙ leaves_same h (gate_at h.conn h.table) (type_at s at) (gate_with (λ x. closes x ≡ false) refl refl (fits h.conn h.table) h.conn.mark g) ∙ ap (λ (x : Answer). leaves x (type_at s at) h) (sym b.0)
 
 -- ---- a packet
 
@@ -111,7 +109,7 @@ unfolding kept
 run_left s kind = by_frames s kind (RunLeft s) (λ h at. none) (λ h at a. frame_left h s at kind) (λ h at a. none) (λ h at r a ih. ih)
 
 no_type : (s : List ℕ) → type_at s (length s) ≡ 0
-no_type s = ap (λ (n : Number). with_number n 0 (λ ty next. ty)) (forms.past s (length s) (omega arith))
+no_type s = ap (λ (n : Option (ℕ × ℕ)). with_number n 0 (λ ty next. ty)) (forms.past s (length s) (omega arith))
 
 packet_left : (h : State) (rs : Records) (first : ℕ) (s : List ℕ) → length h.conn.opened ≡ 4 → accepts (answered h (TakePacket rs first s)) ≡ false → Left (OfHost h (TakePacket rs first s))
 unfolding kept
@@ -181,9 +179,9 @@ taken_left R n e = taking.leaves R n (λ a. not_both _ (ap accepts a) e)
 written_left : (d : Draft) (out : List ℕ) (at : ℕ) → accepts (wrote_answer (writes d out at).0) ≡ false → (writes d out at).1 ≡ out
 written_left d out at e = go (writes d out at).0 refl e
   where
-    go : (r : Wrote) → (writes d out at).0 ≡ r → accepts (wrote_answer r) ≡ false → (writes d out at).1 ≡ out
-    go (Wrote'.To n) p = none
-    go (Wrote'.Refused answer) p = λ f. writing.refused d out at {r = (writes d out at).0} {after = (writes d out at).1} refl p
+    go : (r : Result ℕ Answer) → (writes d out at).0 ≡ r → accepts (wrote_answer r) ≡ false → (writes d out at).1 ≡ out
+    go (Ok n) p = none
+    go (Err answer) p = λ f. writing.refused d out at {r = (writes d out at).0} {after = (writes d out at).1} refl p
 
 pub demand1 : Demand1
 unfolding called_at called_table

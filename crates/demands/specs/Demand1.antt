@@ -1,5 +1,5 @@
 -- Demand 1 of every public call that can refuse: "A refused frame, or a packet's refused header or empty payload, changes nothing but the closing mark; any other refused call changes and writes nothing."
-use Rattle.std.specs.Prelude.{ℕ, ◌≡◌, Bool, false, ◌||◌, List, length, eqb}
+use Rattle.std.specs.Prelude.{ℕ, ◌≡◌, Bool, false, ◌||◌, List, length, eqb, Result, Ok, Err}
 use Rattle.kinds.specs.declared.Role.{Role}
 use Rattle.answers.specs.Choice.{◌⇒◌∣◌}
 use Rattle.answers.specs.Answers.{number_of, accepts}
@@ -7,8 +7,6 @@ use Rattle.answers.specs.declared.Answer.{Answer}
 use Rattle.answers.specs.declared.Answer.TheVariants.{Accepted}
 use Rattle.wire.specs.Number.{number_at, with_number}
 use Rattle.wire.specs.Writing.{writes, number_draft}
-use Rattle.wire.specs.declared.Wrote.{Wrote}
-use Rattle.wire.specs.declared.Wrote.TheVariants as Wrote'
 use Rattle.row.specs.Row.{row_draft}
 use Rattle.frames.specs.declared.Frame.{Frame}
 use Rattle.contents.specs.Content.{contents}
@@ -37,9 +35,9 @@ pub data Asked : Type 0 where
   WriteFrame : List ℕ → Frame → List ℕ → ℕ → Asked
   Acknowledge : Record → ℕ → List ℕ → ℕ → Asked
 
-abbrev pub wrote_answer : Wrote → Answer
-wrote_answer (Wrote'.To n) = Accepted
-wrote_answer (Wrote'.Refused answer) = answer
+abbrev pub wrote_answer : Result ℕ Answer → Answer
+wrote_answer (Ok n) = Accepted
+wrote_answer (Err answer) = answer
 
 abbrev pub answer_to : Asked → Answer
 answer_to (OfHost h x) = answered h x

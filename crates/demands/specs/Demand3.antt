@@ -6,7 +6,6 @@ use Rattle.answers.specs.Answers.{accepts}
 use Rattle.answers.specs.declared.Answer.TheVariants.{DoesNotFit}
 use Rattle.kinds.specs.declared.Kind.{Kind}
 use Rattle.frames.specs.declared.Frame.TheVariants.{Stream, ResetStream}
-use Rattle.frames.specs.declared.Reading.TheVariants.{Got}
 use Rattle.frames.specs.Reading.{frame_at}
 use Rattle.entries.specs.declared.Entry.{Entry}
 use Rattle.streams.specs.declared.Limits.{Limits}
@@ -25,11 +24,12 @@ use Rattle.accounts.specs.Advertised.{credit_by, stream_credit_by, count_by, ope
 use Rattle.demands.specs.Hosts.{Act, answered, number_given, WasHosted, host_after}
 use Rattle.demands.specs.Hosts.Act.{TakeFrame, TakePacket, Make, HandOut}
 use Rattle.demands.specs.Heard.{heard_by}
+use Rattle.frames.specs.Fields.{read_as}
 
 -- the bytes at a place of a packet of this kind are an admitted, well-formed STREAM or RESET_STREAM frame of the stream, with this end, final or not: "STREAM with end = offset + length", "RESET_STREAM: the same, its final size taken as an end with FIN"
 pub data Names (role : Role) (s : List ℕ) (at : ℕ) (kind : Kind) : ℕ → ℕ → Bool → Type 0 where
-  stream : (id offset len : ℕ) (fin : Bool) (place ty next : ℕ) → frame_at role s at kind ≡ Got (Stream id offset fin place len) ty next → Names role s at kind (seated_of role id) (offset + len) fin
-  reset : (id code size ty next : ℕ) → frame_at role s at kind ≡ Got (ResetStream id code size) ty next → Names role s at kind (seated_of role id) size true
+  stream : (id offset len : ℕ) (fin : Bool) (place ty next : ℕ) → frame_at role s at kind ≡ read_as (Stream id offset fin place len) ty next → Names role s at kind (seated_of role id) (offset + len) fin
+  reset : (id code size ty next : ℕ) → frame_at role s at kind ≡ read_as (ResetStream id code size) ty next → Names role s at kind (seated_of role id) size true
 
 -- "while the connection is open", and "When the connection credit is at least the sum of the credits of all streams on which the peer may send, ended ones included"
 pub record Enough (role : Role) (o : Limits) (t : List Entry) (xs : List Act) : Type 0 where

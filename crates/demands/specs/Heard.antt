@@ -1,5 +1,5 @@
 -- What a host's calls brought: the frames and local calls that were accepted, by what the calls answered. A packet brings the frames that the call for one frame accepts, one after the other.
-use Rattle.std.specs.Prelude.{ℕ, zero, suc, ◌-◌, not, List, [], ◌∷◌, ◌++◌, length, leb}
+use Rattle.std.specs.Prelude.{ℕ, zero, suc, ◌-◌, not, List, [], ◌∷◌, ◌++◌, length, leb, Result, Ok, Err}
 use Rattle.kinds.specs.declared.Role.{Role}
 use Rattle.answers.specs.Choice.{◌⇒◌∣◌}
 use Rattle.answers.specs.Answers.{accepts}
@@ -8,7 +8,6 @@ use Rattle.answers.specs.declared.Answer.TheVariants.{Accepted}
 use Rattle.kinds.specs.declared.Kind.{Kind}
 use Rattle.frames.specs.declared.Frame.{Frame}
 use Rattle.frames.specs.declared.Reading.{Reading}
-use Rattle.frames.specs.declared.Reading.TheVariants.{Got, Refused}
 use Rattle.frames.specs.Reading.{frame_at}
 use Rattle.entries.specs.declared.Entry.{Entry}
 use Rattle.streams.specs.declared.Limits.{Limits}
@@ -26,6 +25,7 @@ use Rattle.accounts.specs.History.{Event, State}
 use Rattle.accounts.specs.History.Event.{Got as Heard, Did, Gave}
 use Rattle.demands.specs.Hosts.{Act, answered, acted, hosted}
 use Rattle.demands.specs.Hosts.Act.{TakeFrame, TakePacket, Make, HandOut}
+use Rattle.fields.specs.declared.Refusal.{Refusal}
 
 -- ---- frames taken one by one
 
@@ -109,9 +109,9 @@ heard_by role o t xs = heard_after (hosted role o t) xs []
 -- ---- the frames of a payload, whether or not they are accepted
 
 -- goes on with a frame that can be read and is admitted, and the place after it
-abbrev pub with_frame : {X : Type 0} → Reading → X → (Frame → ℕ → X) → X
-with_frame (Got frame ty next) x k = k frame next
-with_frame (Refused answer ty) x k = x
+abbrev pub with_frame : {X : Type 0} → Result Reading Refusal → X → (Frame → ℕ → X) → X
+with_frame (Ok r) x k = k r.frame r.next
+with_frame (Err r) x k = x
 
 -- what the frames from a place on ask, k at most
 unfoldable pub frames_from : Role → ℕ → List ℕ → ℕ → Kind → List View

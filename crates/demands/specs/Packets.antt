@@ -6,7 +6,6 @@ use Rattle.answers.specs.Choice.{◌⇒◌∣◌}
 use Rattle.answers.specs.Answers.{accepts}
 use Rattle.kinds.specs.declared.Kind.{Kind}
 use Rattle.frames.specs.declared.Frame.{Frame}
-use Rattle.frames.specs.declared.Reading.TheVariants.{Got}
 use Rattle.frames.specs.Reading.{frame_at}
 use Rattle.kinds.specs.Kinds.{space_of}
 use Rattle.entries.specs.declared.Entry.{Entry}
@@ -21,6 +20,7 @@ use Rattle.accounts.specs.History.Event.{Got as Heard}
 use Rattle.demands.specs.Hosts.{Act, answered, acted, records_after, place_told, kept, WasHosted, host_after}
 use Rattle.demands.specs.Hosts.Act.{TakeFrame, TakePacket}
 use Rattle.demands.specs.Heard.{frames_in, calls_of, noted, heard_after, onto, heard_by, frames_of}
+use Rattle.frames.specs.Fields.{read_as}
 
 pub record OneByOne (h : State) (rs : Records) (first : ℕ) (s : List ℕ) : Type 0 where
   pub answer : answered h (TakePacket rs first s) ≡ (frames_in h rs first s).answer
@@ -39,7 +39,7 @@ pub record Enters (h : State) (s : List ℕ) (at : ℕ) (kind : Kind) (l : List 
   pub frame : Frame
   pub ty : ℕ
   pub next : ℕ
-  pub reads : frame_at h.conn.role s at kind ≡ Got frame ty next
+  pub reads : frame_at h.conn.role s at kind ≡ read_as frame ty next
   pub enters : noted h (TakeFrame s at kind) l ≡ Heard (view_of h.conn.role kind frame) ∷ l
 
 pub record Entered (h : State) (s : List ℕ) (at : ℕ) (kind : Kind) (l : List Event) : Type 0 where

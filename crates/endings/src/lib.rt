@@ -20,34 +20,21 @@ pub struct Took {
 }
 
 // A packet after its frames: its number is recorded if none was refused.
+#[tactic(auto, unfolding(crate::specs::Finish::finish_of))]
 pub fn finish(begun: Begun, stopped: Stopped, records: Records) -> Took
     ensures { result ≡ finish_of begun stopped records }
 {
-    let conn = stopped.conn;
-    let place = stopped.place;
-    let before = begun.answer;
-    let Answer::Accepted = before else {
-        return Took {
-            answer: before,
-            place,
-            conn,
-            records,
-        };
+    let answer = match begun.answer {
+        Answer::Accepted => stopped.answer,
+        refused => refused,
     };
-    let answer = stopped.answer;
-    let Answer::Accepted = answer else {
-        return Took {
-            answer,
-            place,
-            conn,
-            records,
-        };
-    };
-    let kind = begun.kind;
     Took {
         answer,
-        place,
-        conn,
-        records: spaces::recorded(records, kind, begun.number),
+        place: stopped.place,
+        conn: stopped.conn,
+        records: match answer {
+            Answer::Accepted => spaces::recorded(records, begun.kind, begun.number),
+            _ => records,
+        },
     }
 }

@@ -8,15 +8,14 @@ use borrow.Author.Tests.{eqb-true, le-leb, le-ltb}
 use lib.Dec.{leb, eqb}
 use Rattle.answers.specs.Choice.{◌⇒◌∣◌}
 use Rattle.entries.specs.declared.Entry.{Entry}
-use Rattle.entries.specs.declared.Final.{Final}
-use Rattle.entries.specs.declared.Final.TheVariants.{Unknown, Known}
 use Rattle.entries.specs.Entry.{most_credit, final_of, is_known}
 use Rattle.entries.specs.Fitting.{size_fits, is_fresh, entry_fits_as}
+use Rattle.std.specs.Prelude.{Option, Some, None}
 
 -- no final size contradicts no end
-unknown_fits : (k : Final) (end : ℕ) → not (is_known k) ≡ true → size_fits k end ≡ true
-unknown_fits Unknown end p = refl
-unknown_fits (Known size) end p = absurd (true≢false (λ i. not (p i)))
+unknown_fits : (k : Option ℕ) (end : ℕ) → not (is_known k) ≡ true → size_fits k end ≡ true
+unknown_fits None end p = refl
+unknown_fits (Some size) end p = absurd (true≢false (λ i. not (p i)))
 
 pub fresh_fits : (opened init n : ℕ) (e : Entry) → opened ≤ n → is_fresh e init ≡ true → entry_fits_as opened init n e ≡ leb init most_credit
 unfolding entry_fits_as is_fresh
@@ -34,7 +33,7 @@ no_size : (size : ℕ) → eqb size (2 ^ 64 - 1) ≡ not (is_known (final_of siz
 unfolding final_of
 no_size size = go (eqb size (2 ^ 64 - 1))
   where
-    go : (b : Bool) → b ≡ not (is_known (b ⇒ Unknown ∣ Known size))
+    go : (b : Bool) → b ≡ not (is_known (b ⇒ None ∣ Some size))
     go true = refl
     go false = refl
 

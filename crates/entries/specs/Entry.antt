@@ -1,24 +1,22 @@
 -- An entry of the stream table, docs/RULES.md, "Streams and credit": "An entry holds credit, furthest end, and final size if known".
-use Rattle.std.specs.Prelude.{ℕ, ◌-◌, ◌^◌, max, Bool, true, false, List, get_or, eqb}
+use Rattle.std.specs.Prelude.{ℕ, ◌-◌, ◌^◌, max, Bool, true, false, List, get_or, eqb, Option, Some, None}
 use Rattle.answers.specs.Choice.{◌⇒◌∣◌}
 use Rattle.halves.specs.Stream.{place_of}
 use Rattle.entries.specs.declared.Entry.{Entry}
-use Rattle.entries.specs.declared.Final.{Final}
-use Rattle.entries.specs.declared.Final.TheVariants.{Unknown, Known}
 
 -- "credit 2^62-1"
 abbrev pub most_credit : ℕ
 most_credit = 2 ^ 62 - 1
 
 -- the final size, if it is known: a value that no stream can have stands for none
-unfoldable pub final_of : ℕ → Final
+unfoldable pub final_of : ℕ → Option ℕ
 final_of size =
-    eqb size (2 ^ 64 - 1) ⇒ Unknown
-    ∣ Known size
+    eqb size (2 ^ 64 - 1) ⇒ None
+    ∣ Some size
 
-abbrev pub is_known : Final → Bool
-is_known Unknown = false
-is_known (Known size) = true
+abbrev pub is_known : Option ℕ → Bool
+is_known None = false
+is_known (Some size) = true
 
 -- an entry as opening sets it
 abbrev pub fresh : ℕ → Entry

@@ -1,14 +1,12 @@
 -- When an entry fits by itself, docs/RULES.md, "120 for the table".
-use Rattle.std.specs.Prelude.{ℕ, Bool, true, not, ◌&&◌, ◌||◌, ltb, leb, eqb}
+use Rattle.std.specs.Prelude.{ℕ, Bool, true, not, ◌&&◌, ◌||◌, ltb, leb, eqb, Option, Some, None}
 use Rattle.entries.specs.Entry.{most_credit, final_of, is_known}
 use Rattle.entries.specs.declared.Entry.{Entry}
-use Rattle.entries.specs.declared.Final.{Final}
-use Rattle.entries.specs.declared.Final.TheVariants.{Unknown, Known}
 
 -- a known final size is the end
-abbrev pub size_fits : Final → ℕ → Bool
-size_fits Unknown end = true
-size_fits (Known size) end = eqb size end
+abbrev pub size_fits : Option ℕ → ℕ → Bool
+size_fits None end = true
+size_fits (Some size) end = eqb size end
 
 -- as opening sets it
 unfoldable pub is_fresh : Entry → ℕ → Bool

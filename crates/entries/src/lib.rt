@@ -15,69 +15,46 @@ pub struct Entry {
     pub size: u64,
 }
 
-// A final size, if it is known.
-#[derive(Clone, Copy)]
-pub enum Final {
-    Unknown,
-    Known { size: u64 },
-}
-
 impl Entry {
     // Above every size that a stream can have.
     pub const UNKNOWN: u64 = 18446744073709551615;
 
-    pub fn known(self) -> Final
+    // The final size, if it is known.
+    #[tactic(auto, unfolding(crate::specs::Entry::final_of))]
+    pub fn known(self) -> Option<u64>
         ensures { result ≡ final_of self.size }
     {
         if self.size == Entry::UNKNOWN {
-            return Final::Unknown;
+            None
+        } else {
+            Some(self.size)
         }
-        Final::Known { size: self.size }
     }
 }
 
 // A known final size is the end.
-fn size_fits(known: Final, end: u64) -> bool
+fn size_fits(known: Option<u64>, end: u64) -> bool
     ensures { result ≡ size_fits known end }
 {
-    match known {
-        Final::Unknown => true,
-        Final::Known { size } => size == end,
-    }
+    known.is_none_or(|size| size == end)
 }
 
 // As opening sets it.
+#[tactic(auto, unfolding(crate::specs::Fitting::is_fresh))]
 fn is_fresh(e: Entry, credit: u64) -> bool
     ensures { result ≡ is_fresh e credit }
 {
-    if e.credit != credit {
-        return false;
-    }
-    if e.end != 0 {
-        return false;
-    }
-    match e.known() {
-        Final::Unknown => true,
-        Final::Known { size: _ } => false,
-    }
+    e.credit == credit && e.end == 0 && e.known().is_none()
 }
 
 // An entry at an ordinal of its half, of which so many are open and whose initial credit is `init`. Most entries of a
 // table are unopened, and one that is as opening set it needs no other test of its own.
+#[tactic(auto, unfolding(crate::specs::Fitting::entry_fits_as))]
 pub fn fits(opened: u64, init: u64, ordinal: u64, e: Entry) -> bool
     ensures { result ≡ entry_fits_as opened init ordinal e }
 {
     if opened <= ordinal {
-        if is_fresh(e, init) {
-            return init <= wire::MOST;
-        }
-        return false;
+        return is_fresh(e, init) && init <= wire::MOST;
     }
-    if e.credit < e.end {
-        return false;
-    }
-    if !size_fits(e.known(), e.end) {
-        return false;
-    }
-    e.credit <= wire::MOST
+    e.end <= e.credit && size_fits(e.known(), e.end) && e.credit <= wire::MOST
 }

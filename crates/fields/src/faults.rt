@@ -8,29 +8,23 @@ use layouts::types;
 const MOST_STREAMS: u64 = 1152921504606846976;
 
 // Whether an end is above 2^62-1.
+#[tactic(auto, unfolding(crate::specs::Faults::above_of))]
 fn above(offset: u64, len: u64) -> bool
     ensures { result ≡ above_of offset len }
 {
-    if wire::MOST < len {
-        return true;
-    }
-    wire::MOST - len < offset
+    wire::MOST < len || wire::MOST - len < offset
 }
 
 // Whether a connection ID has a length outside 1 to 20, or its frame retires a number above its own.
+#[tactic(auto, unfolding(crate::specs::Faults::misissued_of))]
 fn misissued(sequence: u64, retire: u64, len: u64) -> bool
     ensures { result ≡ misissued_of sequence retire len }
 {
-    if len < 1 {
-        return true;
-    }
-    if 20 < len {
-        return true;
-    }
-    sequence < retire
+    len < 1 || 20 < len || sequence < retire
 }
 
 // Whether no frame of the type may have these fields.
+#[tactic(auto, unfolding(crate::specs::Faults::fault_of, crate::specs::Faults::too_many))]
 pub fn fault(ty: u64, a: u64, b: u64, len: u64) -> bool
     ensures { result ≡ fault_of ty a b len }
 {
@@ -40,10 +34,10 @@ pub fn fault(ty: u64, a: u64, b: u64, len: u64) -> bool
     match ty {
         types::CRYPTO => above(a, len),
         types::NEW_TOKEN => len == 0,
-        types::MAX_STREAMS_BIDI => MOST_STREAMS < a,
-        types::MAX_STREAMS_UNI => MOST_STREAMS < a,
-        types::STREAMS_BLOCKED_BIDI => MOST_STREAMS < a,
-        types::STREAMS_BLOCKED_UNI => MOST_STREAMS < a,
+        types::MAX_STREAMS_BIDI
+        | types::MAX_STREAMS_UNI
+        | types::STREAMS_BLOCKED_BIDI
+        | types::STREAMS_BLOCKED_UNI => MOST_STREAMS < a,
         types::NEW_CONNECTION_ID => misissued(a, b, len),
         _ => false,
     }

@@ -2,32 +2,30 @@
 ghost use Rattle.std.specs.Prelude.{◌≡◌};
 ghost use Rattle.fields.specs.Heads.{head_at};
 
-use crate::Head;
+use crate::Refusal;
 use answers::Answer;
 use layouts::types::HANDSHAKE_DONE;
-use wire::Number;
 
-// Reads the type at a place: one that can be read, is in its shortest form and known.
-pub fn read(s: &[u8], at: usize) -> Head
+// Reads the type at a place, and the place after it: one that can be read, is in its shortest form and known.
+#[tactic(auto, using(wire::proofs::Sound::sound), unfolding(crate::specs::Heads::head_at, wire::specs::Number::shortest, layouts::specs::Layout::known))]
+pub fn read(s: &[u8], at: usize) -> Result<(u64, usize), Refusal>
     ensures { result ≡ head_at s.now at }
 {
-    let Number::Is { value: ty, next } = wire::read(s, at) else {
-        return Head::Refused {
-            answer: Answer::FrameEncoding,
-            ty: 0,
-        };
-    };
+    let (ty, next) = wire::read(s, at).ok_or(Refusal {
+        answer: Answer::FrameEncoding,
+        ty: 0,
+    })?;
     if next - at != wire::size(ty) {
-        return Head::Refused {
+        return Err(Refusal {
             answer: Answer::ProtocolViolation,
             ty,
-        };
+        });
     }
     if HANDSHAKE_DONE < ty {
-        return Head::Refused {
+        return Err(Refusal {
             answer: Answer::FrameEncoding,
             ty,
-        };
+        });
     }
-    Head::Type { ty, next }
+    Ok((ty, next))
 }

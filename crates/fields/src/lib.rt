@@ -8,13 +8,13 @@ ghost use Rattle.std.specs.Prelude.{◌≡◌};
 ghost use Rattle.fields.specs.Parts.{ended_at, parts_at};
 
 use answers::Answer;
-use layouts::{Body, Numbers, pieces, table};
+use layouts::{pieces, table};
 
-// A frame's type and the place after it, or why there is none.
+// Why there is no frame: the answer, and the frame's type, 0 where none was read.
 #[derive(Clone, Copy)]
-pub enum Head {
-    Type { ty: u64, next: usize },
-    Refused { answer: Answer, ty: u64 },
+pub struct Refusal {
+    pub answer: Answer,
+    pub ty: u64,
 }
 
 // A frame taken apart, the same for every type: its type, four numbers, places of bytes, and three numbers after
@@ -34,74 +34,44 @@ pub struct Parts {
     pub z: u64,
 }
 
-// The parts of a frame and the place after it; or that it has none.
-#[derive(Drop)]
-pub enum Fields {
-    Are { parts: Parts, next: usize },
-    Wrong,
-}
-
-// The numbers after a frame's bytes; then the frame is judged.
-fn end(s: &[u8], at: usize, after: u8, p: Parts) -> Fields
+// The numbers after a frame's bytes, and the place after them; then the frame is judged.
+#[tactic(auto, unfolding(crate::specs::Parts::ended_at))]
+fn end(s: &[u8], at: usize, after: u8, p: Parts) -> Option<(Parts, usize)>
     ensures { result ≡ ended_at s.now at after p }
 {
-    let Numbers::Are {
-        a: x,
-        b: y,
-        c: z,
-        d: _,
-        next,
-    } = pieces::read_numbers(s, at, after)
-    else {
-        return Fields::Wrong;
-    };
+    let n = pieces::read_numbers(s, at, after)?;
     if faults::fault(p.ty, p.a, p.b, p.len as u64) {
-        return Fields::Wrong;
+        return None;
     }
-    let mut parts = p;
-    parts.x = x;
-    parts.y = y;
-    parts.z = z;
-    Fields::Are { parts, next }
+    let parts = Parts {
+        x: n.a,
+        y: n.b,
+        z: n.c,
+        ..p
+    };
+    Some((parts, n.next))
 }
 
-// Reads the fields of a frame of a known type at a place.
-pub fn read(s: &[u8], at: usize, ty: u64) -> Fields
+// Reads the fields of a frame of a known type at a place: its parts and the place after it, unless it has none.
+#[tactic(auto, unfolding(crate::specs::Parts::parts_at))]
+pub fn read(s: &[u8], at: usize, ty: u64) -> Option<(Parts, usize)>
     ensures { result ≡ parts_at s.now at ty }
 {
     let l = table::find(ty);
-    let tail = l.tail;
-    let Numbers::Are {
-        a,
-        b,
-        c,
-        d,
-        next: p,
-    } = pieces::read_numbers(s, at, l.numbers)
-    else {
-        return Fields::Wrong;
-    };
-    let Body::Is {
-        at: start,
-        len,
-        token,
-        next: q,
-    } = pieces::read_body(s, p, tail, a, c, d)
-    else {
-        return Fields::Wrong;
-    };
+    let n = pieces::read_numbers(s, at, l.numbers)?;
+    let body = pieces::read_body(s, n.next, l.tail, n.a, n.c, n.d)?;
     let parts = Parts {
         ty,
-        a,
-        b,
-        c,
-        d,
-        at: start,
-        len,
-        token,
+        a: n.a,
+        b: n.b,
+        c: n.c,
+        d: n.d,
+        at: body.at,
+        len: body.len,
+        token: body.token,
         x: 0,
         y: 0,
         z: 0,
     };
-    end(s, q, l.after, parts)
+    end(s, body.next, l.after, parts)
 }

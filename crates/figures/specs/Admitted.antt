@@ -6,10 +6,10 @@ use Rattle.kinds.specs.declared.Kind.TheVariants.{Initial, Handshake, ZeroRtt, O
 use Rattle.kinds.specs.declared.Role.{Role}
 use Rattle.kinds.specs.declared.Role.TheVariants.{Server}
 use Rattle.frames.specs.declared.Frame.TheVariants.{Ping}
-use Rattle.frames.specs.declared.Reading.TheVariants.{Got, Refused}
 use Rattle.admission.specs.Admission.{admitted}
 use Rattle.frames.specs.Reading.{frame_at, any_frame_at}
 use Rattle.frames.specs.Said.{reading_says}
+use Rattle.frames.specs.Fields.{read_as, refused_as}
 
 abbrev pub kinds : List Kind
 kinds = Initial ∷ Handshake ∷ ZeroRtt ∷ OneRtt ∷ []
@@ -57,15 +57,15 @@ pub record Admitted : Type 0 where
       ≡ row 0 0 0 0 ∷ row 0 0 0 0 ∷ row 7 7 10 7 ∷ row 7 7 10 7 ∷ row 10 10 7 7 ∷ row 10 10 7 7 ∷ row 7 7 10 7 ∷ row 10 10 10 10 ∷ (replicate 17 (row 10 10 7 7)
       ++ (row 10 10 10 7 ∷ row 10 10 7 7 ∷ row 10 10 10 7 ∷ row 7 7 7 7 ∷ row 10 10 7 7 ∷ row 10 10 10 10 ∷ []))
   -- "type readable (7)": no byte, a type cut short, a place outside; "type 0 if none was read"
-  pub unreadable : map (λ s. frame_at Server s 0 OneRtt) ([] ∷ (0x40 ∷ []) ∷ (0xc0 ∷ 0 ∷ 0 ∷ 0 ∷ 0 ∷ 0 ∷ 0 ∷ []) ∷ []) ≡ Refused FrameEncoding 0 ∷ Refused FrameEncoding 0 ∷ Refused FrameEncoding 0 ∷ []
-  pub outside : frame_at Server (1 ∷ []) 5 OneRtt ≡ Refused FrameEncoding 0
+  pub unreadable : map (λ s. frame_at Server s 0 OneRtt) ([] ∷ (0x40 ∷ []) ∷ (0xc0 ∷ 0 ∷ 0 ∷ 0 ∷ 0 ∷ 0 ∷ 0 ∷ []) ∷ []) ≡ refused_as FrameEncoding 0 ∷ refused_as FrameEncoding 0 ∷ refused_as FrameEncoding 0 ∷ []
+  pub outside : frame_at Server (1 ∷ []) 5 OneRtt ≡ refused_as FrameEncoding 0
   -- "shortest (10)": PING in one, two, four and eight bytes
   pub shortest : map (λ s. frame_at Server s 0 OneRtt) ((1 ∷ []) ∷ (0x40 ∷ 1 ∷ []) ∷ (0x80 ∷ 0 ∷ 0 ∷ 1 ∷ []) ∷ (0xc0 ∷ 0 ∷ 0 ∷ 0 ∷ 0 ∷ 0 ∷ 0 ∷ 1 ∷ []) ∷ [])
-      ≡ Got Ping 1 1 ∷ Refused ProtocolViolation 1 ∷ Refused ProtocolViolation 1 ∷ Refused ProtocolViolation 1 ∷ []
+      ≡ read_as Ping 1 1 ∷ refused_as ProtocolViolation 1 ∷ refused_as ProtocolViolation 1 ∷ refused_as ProtocolViolation 1 ∷ []
   -- "known (7)", after "shortest": 0x1e and 0x1f; 40 21 is 0x21 and not in shortest form, 40 40 is 0x40 and is
-  pub unknown : map (λ s. any_frame_at s 0) ((0x1f ∷ []) ∷ (0x3f ∷ []) ∷ (0x40 ∷ 0x21 ∷ []) ∷ (0x40 ∷ 0x40 ∷ []) ∷ []) ≡ Refused FrameEncoding 0x1f ∷ Refused FrameEncoding 0x3f ∷ Refused ProtocolViolation 0x21 ∷ Refused FrameEncoding 0x40 ∷ []
+  pub unknown : map (λ s. any_frame_at s 0) ((0x1f ∷ []) ∷ (0x3f ∷ []) ∷ (0x40 ∷ 0x21 ∷ []) ∷ (0x40 ∷ 0x40 ∷ []) ∷ []) ≡ refused_as FrameEncoding 0x1f ∷ refused_as FrameEncoding 0x3f ∷ refused_as ProtocolViolation 0x21 ∷ refused_as FrameEncoding 0x40 ∷ []
   -- .. before admission: in every kind of packet
   pub unknown_anywhere : map (answers Server) ((0x1f ∷ []) ∷ (0x40 ∷ 0x40 ∷ []) ∷ (0x40 ∷ 0x21 ∷ []) ∷ (0x40 ∷ 0x1e ∷ []) ∷ []) ≡ row 7 7 7 7 ∷ row 7 7 7 7 ∷ row 10 10 10 10 ∷ row 10 10 10 10 ∷ []
   -- "admitted in this packet kind and role (10), fields (7)": a torn ACK in 0-RTT, a torn CONNECTION_CLOSE 0x1d in Initial, a torn and an empty NEW_TOKEN; the ACK and the CONNECTION_CLOSE where they are admitted
   pub before_fields : frame_at Server (0x02 ∷ 9 ∷ []) 0 ZeroRtt ∷ frame_at Server (0x02 ∷ 9 ∷ []) 0 OneRtt ∷ frame_at Server (0x1d ∷ 9 ∷ []) 0 Initial ∷ frame_at Server (0x1d ∷ 9 ∷ []) 0 ZeroRtt ∷ frame_at Server (0x07 ∷ 9 ∷ []) 0 OneRtt ∷ frame_at Server (0x07 ∷ 0 ∷ []) 0 OneRtt ∷ []
-      ≡ Refused ProtocolViolation 0x02 ∷ Refused FrameEncoding 0x02 ∷ Refused ProtocolViolation 0x1d ∷ Refused FrameEncoding 0x1d ∷ Refused ProtocolViolation 0x07 ∷ Refused ProtocolViolation 0x07 ∷ []
+      ≡ refused_as ProtocolViolation 0x02 ∷ refused_as FrameEncoding 0x02 ∷ refused_as ProtocolViolation 0x1d ∷ refused_as FrameEncoding 0x1d ∷ refused_as ProtocolViolation 0x07 ∷ refused_as ProtocolViolation 0x07 ∷ []

@@ -12,45 +12,44 @@ use Rattle.wire.specs.Number.{number_at, shortest}
 use Rattle.wire.proofs.Sound as number
 use Rattle.layouts.specs.Layout.{known}
 use Rattle.fields.specs.Parts.{parts_at}
-use Rattle.frames.specs.Fields.{fields_at}
+use Rattle.frames.specs.Fields.{fields_at, refused_as}
 use Rattle.admission.specs.Admission.{admitted}
-use Rattle.fields.specs.Heads.{head_at}
+use Rattle.fields.specs.Heads.{head_at, refusal}
 use Rattle.frames.specs.Reading.{admitted_head, frame_at}
 use Rattle.kinds.specs.declared.Kind.{Kind}
 use Rattle.kinds.specs.declared.Role.{Role}
-use Rattle.fields.specs.declared.Head.{Head}
-use Rattle.fields.specs.declared.Head.TheVariants as Head'
 use Rattle.frames.specs.declared.Reading.{Reading}
-use Rattle.frames.specs.declared.Reading.TheVariants.{Got, Refused}
 use Rattle.fields.proofs.Going.{with_fields_law}
 use Rattle.frames.proofs.Going.{with_head_law}
+use Rattle.std.specs.Prelude.{Result, Ok, Err}
+use Rattle.fields.specs.declared.Refusal.{Refusal}
 
 abbrev pub SevenOrTen : Answer → Type 0
 SevenOrTen answer = (answer ≡ FrameEncoding) ⊎ (answer ≡ ProtocolViolation)
 
 -- the code, where there is one
-abbrev Coded : Reading → Type 0
-Coded (Got frame ty next) = Unit
-Coded (Refused answer ty) = SevenOrTen answer
+abbrev Coded : Result Reading Refusal → Type 0
+Coded (Ok r) = Unit
+Coded (Err r) = SevenOrTen r.answer
 
-abbrev HeadCoded : Head → Type 0
-HeadCoded (Head'.Type ty next) = Unit
-HeadCoded (Head'.Refused answer ty) = SevenOrTen answer
+abbrev HeadCoded : Result (ℕ × ℕ) Refusal → Type 0
+HeadCoded (Ok (ty, next)) = Unit
+HeadCoded (Err r) = SevenOrTen r.answer
 
 head_codes : (s : List ℕ) (at : ℕ) → HeadCoded (head_at s at)
 unfolding head_at
 head_codes s at =
-    number.with_number_law HeadCoded (number_at s at) (Head'.Refused FrameEncoding 0) _ (inl refl) (λ ty next e.
-    holds HeadCoded (not (shortest at ty next)) (Head'.Refused ProtocolViolation ty) _ (λ t. inr refl) (λ t.
-    holds HeadCoded (not (known ty)) (Head'.Refused FrameEncoding ty) _ (λ u. inl refl) (λ u. tt)))
+    number.with_number_law HeadCoded (number_at s at) (Err (refusal FrameEncoding 0)) _ (inl refl) (λ ty next e.
+    holds HeadCoded (not (shortest at ty next)) (Err (refusal ProtocolViolation ty)) _ (λ t. inr refl) (λ t.
+    holds HeadCoded (not (known ty)) (Err (refusal FrameEncoding ty)) _ (λ u. inl refl) (λ u. tt)))
 
 fields_codes : (s : List ℕ) (at ty : ℕ) → Coded (fields_at s at ty)
 unfolding fields_at
-fields_codes s at ty = with_fields_law Coded (parts_at s at ty) (Refused FrameEncoding ty) _ (inl refl) (λ p next e. tt)
+fields_codes s at ty = with_fields_law Coded (parts_at s at ty) (refused_as FrameEncoding ty) _ (inl refl) (λ p next e. tt)
 
-admitted_codes : (role : Role) (kind : Kind) (h : Head) → HeadCoded h → HeadCoded (admitted_head role kind h)
-admitted_codes role kind (Head'.Type ty next) c = holds HeadCoded (not (admitted role kind ty)) (Head'.Refused ProtocolViolation ty) _ (λ t. inr refl) (λ t. tt)
-admitted_codes role kind (Head'.Refused answer ty) c = c
+admitted_codes : (role : Role) (kind : Kind) (h : Result (ℕ × ℕ) Refusal) → HeadCoded h → HeadCoded (admitted_head role kind h)
+admitted_codes role kind (Ok (ty, next)) c = holds HeadCoded (not (admitted role kind ty)) (Err (refusal ProtocolViolation ty)) _ (λ t. inr refl) (λ t. tt)
+admitted_codes role kind (Err r) c = c
 
 frame_codes : (role : Role) (s : List ℕ) (at : ℕ) (kind : Kind) → Coded (frame_at role s at kind)
 unfolding frame_at
@@ -58,5 +57,5 @@ frame_codes role s at kind =
     with_head_law Coded (admitted_head role kind (head_at s at)) _ (λ answer ty e. subst HeadCoded e (admitted_codes role kind (head_at s at) (head_codes s at)))
     (λ ty next e. fields_codes s next ty)
 
-pub codes : (role : Role) (s : List ℕ) (at : ℕ) (kind : Kind) {answer : Answer} {ty : ℕ} → frame_at role s at kind ≡ Refused answer ty → (answer ≡ FrameEncoding) ⊎ (answer ≡ ProtocolViolation)
+pub codes : (role : Role) (s : List ℕ) (at : ℕ) (kind : Kind) {answer : Answer} {ty : ℕ} → frame_at role s at kind ≡ refused_as answer ty → (answer ≡ FrameEncoding) ⊎ (answer ≡ ProtocolViolation)
 codes role s at kind e = subst Coded e (frame_codes role s at kind)

@@ -4,12 +4,13 @@ use mathlib.Core.Path.{◌≡◌, refl}
 use Prim.Native.Nat.{ℕ}
 use Rattle.answers.specs.declared.Answer.{Answer}
 use Rattle.frames.specs.Reading.{with_head}
-use Rattle.fields.specs.declared.Head.{Head}
-use Rattle.fields.specs.declared.Head.TheVariants as Head'
 use Rattle.frames.specs.declared.Reading.{Reading}
-use Rattle.frames.specs.declared.Reading.TheVariants.{Refused}
+use Rattle.std.specs.Prelude.{Result, Ok, Err}
+use Rattle.frames.specs.Fields.{refused_as}
+use Rattle.fields.specs.Heads.{refusal}
+use Rattle.fields.specs.declared.Refusal.{Refusal}
 
-pub with_head_law : (P : Reading → Type 0) (h : Head) (k : ℕ → ℕ → Reading) → ((answer : Answer) (ty : ℕ) → h ≡ Head'.Refused answer ty → P (Refused answer ty))
-    → ((ty next : ℕ) → h ≡ Head'.Type ty next → P (k ty next)) → P (with_head h k)
-with_head_law P (Head'.Type ty next) k p q = q ty next refl
-with_head_law P (Head'.Refused answer ty) k p q = p answer ty refl
+pub with_head_law : (P : Result Reading Refusal → Type 0) (h : Result (ℕ × ℕ) Refusal) (k : ℕ → ℕ → Result Reading Refusal) → ((answer : Answer) (ty : ℕ) → h ≡ Err (refusal answer ty) → P (refused_as answer ty))
+    → ((ty next : ℕ) → h ≡ Ok (ty, next) → P (k ty next)) → P (with_head h k)
+with_head_law P (Ok (ty, next)) k p q = q ty next refl
+with_head_law P (Err r) k p q = p r.answer r.ty refl

@@ -9,15 +9,17 @@ use Rattle.answers.proofs.Said.{one_value, found_by}
 use Rattle.frames.specs.Said.{reading_says}
 use Rattle.frames.specs.declared.Frame.{Frame}
 use Rattle.frames.specs.declared.Reading.{Reading}
-use Rattle.frames.specs.declared.Reading.TheVariants.{Got, Refused}
+use Rattle.std.specs.Prelude.{Result, Ok, Err}
+use Rattle.frames.specs.Fields.{read_as, refused_as}
+use Rattle.fields.specs.declared.Refusal.{Refusal}
 
-reading_of : Said (ℕ × List (Frame × ℕ)) → Reading
-reading_of s = found_by (λ v. Got v.0 s.values.0 v.1) (λ n. Refused (answer_of n) s.values.0) (record { number = s.number; values = s.values.1 })
+reading_of : Said (ℕ × List (Frame × ℕ)) → Result Reading Refusal
+reading_of s = found_by (λ v. read_as v.0 s.values.0 v.1) (λ n. refused_as (answer_of n) s.values.0) (record { number = s.number; values = s.values.1 })
 
-reading_again : (x : Reading) → reading_of (reading_says x) ≡ x
+reading_again : (x : Result Reading Refusal) → reading_of (reading_says x) ≡ x
 unfolding reading_of
-reading_again (Got frame ty next) = refl
-reading_again (Refused answer ty) = ap (λ a. Refused a ty) (again answer)
+reading_again (Ok r) = refl
+reading_again (Err r) = ap (λ a. refused_as a r.ty) (again r.answer)
 
-pub one_reading : (x y : Reading) → reading_says x ≡ reading_says y → x ≡ y
+pub one_reading : (x y : Result Reading Refusal) → reading_says x ≡ reading_says y → x ≡ y
 one_reading = one_value reading_says reading_of reading_again

@@ -1,13 +1,22 @@
 -- A frame of a known type: its fields put together, and 7 where they cannot be read or have a fault.
-use Rattle.std.specs.Prelude.{ℕ, ◌/◌, ◌%◌, true, false, List, eqb}
+use Rattle.std.specs.Prelude.{ℕ, ◌/◌, ◌%◌, true, false, List, eqb, Result, Ok, Err}
 use Rattle.answers.specs.Choice.{◌⇒◌∣◌}
+use Rattle.answers.specs.declared.Answer.{Answer}
 use Rattle.answers.specs.declared.Answer.TheVariants.{FrameEncoding}
+use Rattle.fields.specs.Heads.{refusal}
 use Rattle.fields.specs.Parts.{parts_at, with_fields}
 use Rattle.fields.specs.declared.Parts.{Parts}
 use Rattle.frames.specs.declared.Frame.{Frame}
 use Rattle.frames.specs.declared.Frame.TheVariants.{Padding, Ping, Ack, AckEcn, ResetStream, StopSending, Crypto, NewToken, Stream, MaxData, MaxStreamData, MaxStreams, DataBlocked, StreamDataBlocked, StreamsBlocked, NewConnectionId, RetireConnectionId, PathChallenge, PathResponse, ConnectionClose, ApplicationClose, HandshakeDone}
 use Rattle.frames.specs.declared.Reading.{Reading}
-use Rattle.frames.specs.declared.Reading.TheVariants.{Got, Refused}
+use Rattle.fields.specs.declared.Refusal.{Refusal}
+
+-- a frame that was read, its type and the place after it; or why there is none
+abbrev pub read_as : Frame → ℕ → ℕ → Result Reading Refusal
+read_as frame ty next = Ok (record { frame = frame; ty = ty; next = next })
+
+abbrev pub refused_as : Answer → ℕ → Result Reading Refusal
+refused_as answer ty = Err (refusal answer ty)
 
 -- the frame of a type, with the names that its figure gives to the numbers
 unfoldable pub frame_of : Parts → Frame
@@ -38,5 +47,5 @@ frame_of p =
     ∣ HandshakeDone
 
 -- the fields at a place, put together
-unfoldable pub fields_at : List ℕ → ℕ → ℕ → Reading
-fields_at s at ty = with_fields (parts_at s at ty) (Refused FrameEncoding ty) (λ p next. Got (frame_of p) ty next)
+unfoldable pub fields_at : List ℕ → ℕ → ℕ → Result Reading Refusal
+fields_at s at ty = with_fields (parts_at s at ty) (refused_as FrameEncoding ty) (λ p next. read_as (frame_of p) ty next)

@@ -7,6 +7,7 @@ use fields::Parts;
 use layouts::types;
 
 // The frame that is put together from its parts.
+#[tactic(auto, unfolding(crate::specs::Fields::frame_of))]
 pub fn assemble(p: Parts) -> Frame
     ensures { result ≡ frame_of p }
 {

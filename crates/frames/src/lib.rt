@@ -5,10 +5,10 @@ mod assembly;
 
 ghost use Rattle.std.specs.Prelude.{◌≡◌};
 ghost use Rattle.frames.specs.Fields.{fields_at};
-ghost use Rattle.frames.specs.Reading.{with_head, admitted_head, frame_at, any_frame_at};
+ghost use Rattle.frames.specs.Reading.{frame_at, any_frame_at};
 
 use answers::Answer;
-use fields::{Fields, Head, heads};
+use fields::{Refusal, heads};
 use kinds::{Kind, Role};
 
 // A frame. Numbers have the names of section 19, in short. Bytes are places in the slice that the frame was read
@@ -112,67 +112,50 @@ pub enum Frame {
     HandshakeDone,
 }
 
-// What reading a frame answers: the frame, its type as on the wire and the place after it; or the code that
-// refuses it and its type, 0 if none was read.
+// A frame that was read, its type as on the wire and the place after it.
 #[derive(Clone, Copy)]
-pub enum Reading {
-    Got { frame: Frame, ty: u64, next: usize },
-    Refused { answer: Answer, ty: u64 },
+pub struct Reading {
+    pub frame: Frame,
+    pub ty: u64,
+    pub next: usize,
 }
 
 // The frame at a place, of a known type.
-fn read_fields(s: &[u8], at: usize, ty: u64) -> Reading
+#[tactic(auto, unfolding(crate::specs::Fields::fields_at))]
+fn read_fields(s: &[u8], at: usize, ty: u64) -> Result<Reading, Refusal>
     ensures { result ≡ fields_at s.now at ty }
 {
-    let Fields::Are { parts, next } = fields::read(s, at, ty) else {
-        return Reading::Refused {
-            answer: Answer::FrameEncoding,
-            ty,
-        };
-    };
-    Reading::Got {
+    let (parts, next) = fields::read(s, at, ty).ok_or(Refusal {
+        answer: Answer::FrameEncoding,
+        ty,
+    })?;
+    Ok(Reading {
         frame: assembly::assemble(parts),
         ty,
         next,
-    }
-}
-
-// A type that a packet of this kind may carry to us; what was refused stays so.
-fn admit(role: Role, kind: Kind, head: Head) -> Head
-    ensures { result ≡ admitted_head role kind head }
-{
-    let Head::Type { ty, next: _ } = head else {
-        return head;
-    };
-    if admission::admits(role, kind, ty) {
-        return head;
-    }
-    Head::Refused {
-        answer: Answer::ProtocolViolation,
-        ty,
-    }
-}
-
-// The frame after a type.
-fn read_after(s: &[u8], head: Head) -> Reading
-    ensures { result ≡ with_head head (λ ty next. fields_at s.now next ty) }
-{
-    match head {
-        Head::Refused { answer, ty } => Reading::Refused { answer, ty },
-        Head::Type { ty, next } => read_fields(s, next, ty),
-    }
+    })
 }
 
 // Reads the frame at a place of a payload of a packet of this kind, at an end of this role.
-pub fn read(role: Role, s: &[u8], at: usize, kind: Kind) -> Reading
+#[tactic(auto, unfolding(crate::specs::Reading::frame_at))]
+pub fn read(role: Role, s: &[u8], at: usize, kind: Kind) -> Result<Reading, Refusal>
     ensures { result ≡ frame_at role s.now at kind }
 {
-    read_after(s, admit(role, kind, heads::read(s, at)))
+    let (ty, next) = heads::read(s, at)?;
+    if !admission::admits(role, kind, ty) {
+        return Err(Refusal {
+            answer: Answer::ProtocolViolation,
+            ty,
+        });
+    }
+    read_fields(s, next, ty)
 }
 
 // Reads the frame at a place, whatever packet it stands in: what a writer's frames are read back by.
-pub fn read_any(s: &[u8], at: usize) -> Reading
+#[tactic(auto, unfolding(crate::specs::Reading::any_frame_at))]
+pub fn read_any(s: &[u8], at: usize) -> Result<Reading, Refusal>
     ensures { result ≡ any_frame_at s.now at }
 {
-    read_after(s, heads::read(s, at))
+    let (ty, next) = heads::read(s, at)?;
+    read_fields(s, next, ty)
 }

@@ -20,17 +20,18 @@ impl Stream {
     pub const MOST: u64 = 64;
 }
 
+// How many ordinals the IDs of 62 bits have: 2^60.
+const ORDINALS: u64 = 1152921504606846976;
+
 // The places that a half has in the table.
 const PLACES: usize = Stream::MOST as usize;
 
 // The types 0 and 1 exchanged, and 2 and 3: what one end calls its own streams, the other calls the peer's.
+#[tactic(auto, unfolding(crate::specs::Seat::exchanged_of))]
 fn exchanged(id: u64) -> u64
     ensures { result ≡ exchanged_of id }
 {
-    if id % 2 == 0 {
-        return id + 1;
-    }
-    id - 1
+    if id % 2 == 0 { id + 1 } else { id - 1 }
 }
 
 // An ID on the wire as the ID that the stream has at a server; and back, as twice is not at all.
@@ -54,38 +55,33 @@ pub fn named(id: u64) -> Stream
 }
 
 // Its ID again; 0 for what no ID names.
+#[tactic(auto, unfolding(crate::specs::Stream::id_of))]
 pub fn id_of(s: Stream) -> u64
     ensures { result ≡ id_of s.half s.ordinal }
 {
-    if 3 < s.half {
-        return 0;
+    if s.half < 4 && s.ordinal < ORDINALS {
+        4 * s.ordinal + s.half as u64
+    } else {
+        0
     }
-    if 1152921504606846975 < s.ordinal {
-        return 0;
-    }
-    4 * s.ordinal + s.half as u64
 }
 
 // Whether the peer opens the streams of a half.
 pub fn is_peers(half: usize) -> bool
     ensures { result ≡ peers half }
 {
-    if half == 0 {
-        return true;
-    }
-    half == 2
+    half == 0 || half == 2
 }
 
 // The place of a stream's entry in the table; the first for a stream that has none.
+#[tactic(auto, unfolding(crate::specs::Stream::place_of, crate::specs::Stream::listed))]
 pub fn place_of(id: u64) -> usize
     ensures { result ≡ place_of id }
 {
     let s = named(id);
-    if 2 < s.half {
-        return 0;
+    if s.half < 3 && s.ordinal < Stream::MOST {
+        PLACES * s.half + s.ordinal as usize
+    } else {
+        0
     }
-    if Stream::MOST <= s.ordinal {
-        return 0;
-    }
-    PLACES * s.half + s.ordinal as usize
 }

@@ -3,12 +3,12 @@
 use mathlib.Core.Path.{◌≡◌, refl}
 use Rattle.answers.proofs.Said.{one_value, found_by}
 use Rattle.headers.specs.Said.{header_says}
-use Rattle.headers.specs.declared.Header.{Header}
-use Rattle.headers.specs.declared.Header.TheVariants.{Carries, NoPacket}
+use Rattle.std.specs.Prelude.{Option, Some, None}
+use Rattle.kinds.specs.declared.Kind.{Kind}
 
-header_again : (x : Header) → found_by Carries (λ n. NoPacket) (header_says x) ≡ x
-header_again (Carries kind) = refl
-header_again NoPacket = refl
+header_again : (x : Option Kind) → found_by Some (λ n. None) (header_says x) ≡ x
+header_again (Some kind) = refl
+header_again None = refl
 
-pub one_header : (x y : Header) → header_says x ≡ header_says y → x ≡ y
-one_header = one_value header_says (found_by Carries (λ n. NoPacket)) header_again
+pub one_header : (x y : Option Kind) → header_says x ≡ header_says y → x ≡ y
+one_header = one_value header_says (found_by Some (λ n. None)) header_again

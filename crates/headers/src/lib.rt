@@ -8,41 +8,29 @@ ghost use Rattle.headers.specs.First.{header_of, size_in, reserved_of};
 
 use kinds::Kind;
 use numbers::Size;
-use wire::Number;
 
-// What the plain first byte tells: a packet of frames, or none that can be taken.
-#[derive(Clone, Copy)]
-pub enum Header {
-    Carries { kind: Kind },
-    NoPacket,
-}
-
-// What a plain first byte tells.
-pub fn of_first(first: u8) -> Header
+// The kind of packet that a plain first byte tells; none where it is no packet that can be taken.
+#[tactic(auto, unfolding(crate::specs::First::header_of))]
+pub fn of_first(first: u8) -> Option<Kind>
     ensures { result ≡ header_of first }
 {
     if first / 64 % 2 == 0 {
-        return Header::NoPacket;
+        return None;
     }
     if first / 128 == 0 {
-        return Header::Carries { kind: Kind::OneRtt };
+        return Some(Kind::OneRtt);
     }
     let form = first / 16 % 4;
     match form {
-        0 => Header::Carries {
-            kind: Kind::Initial,
-        },
-        1 => Header::Carries {
-            kind: Kind::ZeroRtt,
-        },
-        2 => Header::Carries {
-            kind: Kind::Handshake,
-        },
-        _ => Header::NoPacket,
+        0 => Some(Kind::Initial),
+        1 => Some(Kind::ZeroRtt),
+        2 => Some(Kind::Handshake),
+        _ => None,
     }
 }
 
 // The length of the number: the low two bits, plus one.
+#[tactic(auto, unfolding(crate::specs::First::size_in))]
 pub fn size(first: u8) -> Size
     ensures { result ≡ size_in first }
 {
@@ -56,6 +44,7 @@ pub fn size(first: u8) -> Size
 }
 
 // Whether reserved bits are set: 0x0c of a long header, 0x18 of a short one.
+#[tactic(auto, unfolding(crate::specs::First::reserved_of))]
 pub fn reserved(first: u8) -> bool
     ensures { result ≡ reserved_of first }
 {
@@ -65,36 +54,17 @@ pub fn reserved(first: u8) -> bool
     first / 4 % 4 != 0
 }
 
-fn bytes_in(size: Size) -> usize
-    ensures { (result ≡ bytes_in size) × (1 ≤ result) × (result ≤ 4) }
-{
-    match size {
-        Size::One => 1,
-        Size::Two => 2,
-        Size::Three => 3,
-        Size::Four => 4,
-    }
-}
-
-fn wide(x: u8) -> u64
-    ensures { result ≡ x }
-{
-    x as u64
-}
-
 // The truncated number and the place after it: the first bytes, the highest first.
-pub fn truncated(s: &[u8], size: Size) -> Number
+pub fn truncated(s: &[u8], size: Size) -> Option<(u64, usize)>
     ensures { result ≡ plain_at s.now 0 (bytes_in size) }
 {
-    let n = bytes_in(size);
+    let n = size.bytes();
     if s.len() < n {
-        return Number::CutShort;
+        return None;
     }
-    let mut value: u64 = 0;
-    let mut i: usize = 0;
-    while i < n {
-        value = value * 256 + wide(s[i]);
-        i += 1;
+    let mut value = 0;
+    for &b in &s[..n] {
+        value = value * 256 + u64::from(b);
     }
-    Number::Is { value, next: n }
+    Some((value, n))
 }

@@ -13,15 +13,15 @@ use Rattle.answers.proofs.Choice.{below_or_not}
 use Rattle.text.specs.Text.{every}
 use Rattle.hexes.specs.Hex.{digit_of, hex_of, is_pairs, bytes_in, pairs_of}
 use Rattle.dumps.specs.Digits.{half_of, is_half}
-use Rattle.hexes.specs.declared.Pairs.TheVariants.{Are}
 use Rattle.hexes.proofs.Halves.{digit_figure, digit_letter, length_hex}
 use Rattle.dumps.proofs.Digits.{half_figure, half_lower, is_half_law}
+use Rattle.std.specs.Prelude.{Some, Ok}
 
 -- half a byte reads back
-pub half_back : (h : ℕ) → h < 16 → half_of (digit_of h) ≡ h
+pub half_back : (h : ℕ) → h < 16 → half_of (digit_of h) ≡ Some h
 half_back h l = below_or_not h 10
-    (λ p. rw (digit_figure h p, half_figure (48 + h) (omega arith) (omega arith)) (omega arith))
-    (λ p. rw (digit_letter h p, half_lower (87 + h) (omega arith) (omega arith)) (omega arith))
+    (λ p. rw (digit_figure h p, half_figure (48 + h) (omega arith) (omega arith)) (ap Some (omega arith)))
+    (λ p. rw (digit_letter h p, half_lower (87 + h) (omega arith) (omega arith)) (ap Some (omega arith)))
 
 -- bytes are below 256
 abbrev pub Bytes : List ℕ → Type 0
@@ -36,10 +36,10 @@ halves (b ∷ l) e =
     let s = ltb-true b 256 t.0 in
     let u = half_back (b / 16) (omega arith) in
     let v = half_back (b % 16) (omega arith) in
-    (rw (is_half_law (digit_of (b / 16)) (omega (arith, u)), is_half_law (digit_of (b % 16)) (omega (arith, v))) i.0, rw (u, v, i.1) (ap (λ (x : ℕ). x ∷ l) (omega arith)))
+    (rw (is_half_law (digit_of (b / 16)) u, is_half_law (digit_of (b % 16)) v) i.0, rw (u, v, i.1) (ap (λ (x : ℕ). x ∷ l) (omega arith)))
 
 -- the law: bytes read back, from their digits, into an output that holds them
-pub hex_back : (l out : List ℕ) → Bytes l → length l ≤ length out → pairs_of (hex_of l) out ≡ (Are (length l), sets out 0 l)
+pub hex_back : (l out : List ℕ) → Bytes l → length l ≤ length out → pairs_of (hex_of l) out ≡ (Ok (length l), sets out 0 l)
 unfolding pairs_of is_pairs
 hex_back l out b h =
     let p = halves l b in

@@ -1,4 +1,3 @@
-pub mod Offering
 pub mod Handing
 pub mod Meaning
 pub mod Unique

@@ -2,7 +2,7 @@
 -- A stream whose entry a rule looks at has one: rules 1 and 2 have passed, or it is open.
 -- Assumes nothing.
 use Prim.Native.Nat.{ℕ, ◌/◌, ◌%◌}
-use mathlib.Core.Path.{◌≡◌, refl, sym, ◌∙◌, ap, subst}
+use mathlib.Core.Path.{◌≡◌, refl, sym, ◌∙◌, ap}
 use mathlib.Core.Bool.{Bool, true, false, not, ◌||◌, ◌&&◌}
 use mathlib.Core.List.{List, []}
 use native.Mathlib.Omega.{arith}
@@ -16,12 +16,10 @@ use Rattle.answers.specs.declared.Answer.TheVariants.{Accepted, FlowControl, Str
 use Rattle.answers.proofs.Choice.{holds}
 use Rattle.answers.proofs.Accepts.{accepts_true}
 use Rattle.wire.specs.Number.{number_at}
-use Rattle.wire.specs.declared.Number.TheVariants.{Is, CutShort}
 use Rattle.frames.specs.declared.Frame.{Frame}
 use Rattle.kinds.specs.declared.Kind.{Kind}
 use Rattle.kinds.specs.declared.Kind.TheVariants.{OneRtt}
 use Rattle.frames.specs.declared.Reading.{Reading}
-use Rattle.frames.specs.declared.Reading.TheVariants.{Got, Refused}
 use Rattle.frames.specs.Reading.{frame_at}
 use Rattle.frames.proofs.Order.{unreadable}
 use Rattle.halves.specs.Stream.{stream_of, peers, receives, sends, most_streams}
@@ -63,16 +61,20 @@ use Rattle.demands.specs.Hosts.{Act, answered, WasHosted, host_after}
 use Rattle.demands.specs.Hosts.Act.{TakeFrame, TakePacket, Make, HandOut}
 use Rattle.demands.specs.Heard.{shown_by, heard_by}
 use Rattle.demands.specs.Demand3.{Demand3}
-use Rattle.demands.proofs.Frames.{decided, Live, answer_is, shown_is, barred, refused_with, IfRefused}
+use Rattle.demands.proofs.Frames.{decided, Live, answer_is, shown_is, barred}
 use Rattle.demands.proofs.OneByOne.{header_refused}
 use Rattle.demands.proofs.Lifted.{role_of, open_same, four_of, lifted}
 use Rattle.demands.proofs.Proved.{settled_answer, demand3}
 use Rattle.hosts.specs.ByHistory.{total_by, verdict_by, reply_by, ClosedNext, ByHistory}
 use Rattle.hosts.proofs.OnlyThen.{only_then}
+use Rattle.std.specs.Prelude.{Some, None, Result}
+use Rattle.frames.specs.Fields.{read_as}
+use Rattle.frames.specs.Fields.{refused_as}
+use Rattle.fields.specs.declared.Refusal.{Refusal}
 
 -- ---- 101
 
-gate_shut : (fit : Bool) (mark : Mark) → fit ≡ true → is_open mark ≡ false → ((gate_of fit mark).passes ≡ false) × ((gate_of fit mark).answer ≡ Closed)
+gate_shut : (fit : Bool) (mark : Mark) → fit ≡ true → is_open mark ≡ false → (accepts (gate_of fit mark) ≡ false) × (gate_of fit mark ≡ Closed)
 unfolding gate_of
 gate_shut fit mark e f = rw (e, f) (refl, refl)
 
@@ -223,29 +225,28 @@ module _ (role : Role) (o : Limits) (t : List Entry) (xs : List Act) (h : WasHos
     here : (s : List ℕ) (at : ℕ) (kind : Kind) → frame_at now.conn.role s at kind ≡ frame_at role s at kind
     here s at kind = ap (λ (r : Role). frame_at r s at kind) seat
 
-    judged : (s : List ℕ) (at : ℕ) (kind : Kind) (frame : Frame) (ty next : ℕ) → frame_at role s at kind ≡ Got frame ty next → answered now (TakeFrame s at kind) ≡ verdict_by o past (view_of role kind frame)
+    judged : (s : List ℕ) (at : ℕ) (kind : Kind) (frame : Frame) (ty next : ℕ) → frame_at role s at kind ≡ read_as frame ty next → answered now (TakeFrame s at kind) ≡ verdict_by o past (view_of role kind frame)
     unfolding decided_of request_of judged_of
     judged s at kind frame ty next e =
-        answer_is now live s at kind ∙ ap (λ (r : Reading). (decided now kind at r).stepped.answer) (here s at kind ∙ e)
+        answer_is now live s at kind ∙ ap (λ (r : Result Reading Refusal). (decided now kind at r).stepped.answer) (here s at kind ∙ e)
         ∙ settled_answer (verdict_of now.conn (entry_of now.table (stream_in (view_of now.conn.role kind frame))) (view_of now.conn.role kind frame)) now.conn _ ty _ _
         ∙ verdict_by_law (view_of now.conn.role kind frame) ∙ ap (λ (r : Role). verdict_by o past (view_of r kind frame)) seat
 
     -- a reading that is refused does not accept
-    unread : (s : List ℕ) (at : ℕ) (kind : Kind) (answer : Answer) (ty : ℕ) → frame_at role s at kind ≡ Refused answer ty → answered now (TakeFrame s at kind) ≡ answer
+    unread : (s : List ℕ) (at : ℕ) (kind : Kind) (answer : Answer) (ty : ℕ) → frame_at role s at kind ≡ refused_as answer ty → answered now (TakeFrame s at kind) ≡ answer
     unfolding decided_of request_of
     unread s at kind answer ty e =
-        let c : accepts answer ≡ false = subst (IfRefused (λ (a : Answer). accepts a ≡ false)) e (refused_with (λ (a : Answer). accepts a ≡ false) refl refl role s at kind) in
-        answer_is now live s at kind ∙ ap (λ (r : Reading). (decided now kind at r).stepped.answer) (here s at kind ∙ e) ∙ rw c refl
+        answer_is now live s at kind ∙ ap (λ (r : Result Reading Refusal). (decided now kind at r).stepped.answer) (here s at kind ∙ e)
 
-    shows : (s : List ℕ) (at : ℕ) (kind : Kind) (frame : Frame) (ty next : ℕ) → frame_at role s at kind ≡ Got frame ty next → shown_by now s at kind ≡ Whole frame ty next
+    shows : (s : List ℕ) (at : ℕ) (kind : Kind) (frame : Frame) (ty next : ℕ) → frame_at role s at kind ≡ read_as frame ty next → shown_by now s at kind ≡ Whole frame ty next
     unfolding shown_at shown_of
     shows s at kind frame ty next e = shown_is now live s at kind ∙ rw (here s at kind ∙ e) refl
 
-    shows_type : (s : List ℕ) (at : ℕ) (kind : Kind) (answer : Answer) (ty value next : ℕ) → frame_at role s at kind ≡ Refused answer ty → number_at s at ≡ Is value next → shown_by now s at kind ≡ Typed value
+    shows_type : (s : List ℕ) (at : ℕ) (kind : Kind) (answer : Answer) (ty value next : ℕ) → frame_at role s at kind ≡ refused_as answer ty → number_at s at ≡ Some (value, next) → shown_by now s at kind ≡ Typed value
     unfolding shown_at shown_of
     shows_type s at kind answer ty value next e n = shown_is now live s at kind ∙ rw (here s at kind ∙ e, n) refl
 
-    shows_nothing : (s : List ℕ) (at : ℕ) (kind : Kind) → number_at s at ≡ CutShort → shown_by now s at kind ≡ Unseen
+    shows_nothing : (s : List ℕ) (at : ℕ) (kind : Kind) → number_at s at ≡ None → shown_by now s at kind ≡ Unseen
     unfolding shown_at shown_of
     shows_nothing s at kind n = shown_is now live s at kind ∙ rw (unreadable now.conn.role s at kind n, n) refl
 

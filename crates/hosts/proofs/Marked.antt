@@ -13,7 +13,6 @@ use Rattle.answers.proofs.Distinct.{impossible}
 use Rattle.frames.specs.declared.Frame.{Frame}
 use Rattle.kinds.specs.declared.Kind.{Kind}
 use Rattle.frames.specs.declared.Reading.{Reading}
-use Rattle.frames.specs.declared.Reading.TheVariants.{Got}
 use Rattle.frames.specs.Reading.{frame_at}
 use Rattle.streams.specs.declared.Called.{Called}
 use Rattle.streams.specs.declared.Conn.{Conn}
@@ -44,10 +43,13 @@ use Rattle.demands.specs.Hosts.{Act, answered, acted, number_given}
 use Rattle.demands.specs.Hosts.Act.{TakeFrame, TakePacket, Make, HandOut}
 use Rattle.demands.specs.Demand1 as Demand1
 use Rattle.demands.specs.Demand1.{leaves}
-use Rattle.demands.proofs.Frames.{Live, accepted_is, answer_is, acted_is, refusing, passed_gate, gate_passes, barred}
+use Rattle.demands.proofs.Frames.{view_in, Live, accepted_is, answer_is, acted_is, refusing, passed_gate, gate_passes, barred}
 use Rattle.demands.proofs.OneByOne.{is_live, header_refused}
 use Rattle.hosts.specs.Marked.{MarkLeft}
 use Rattle.hosts.proofs.OnlyThen.{only_then}
+use Rattle.std.specs.Prelude.{Result}
+use Rattle.frames.specs.Fields.{read_as}
+use Rattle.fields.specs.declared.Refusal.{Refusal}
 
 -- ---- what is accepted
 
@@ -88,13 +90,13 @@ handed h space = holds (Made h.conn) (ltb most_credit (next_of h.conn space)) _ 
 -- ---- one frame
 
 module _ (h : State) (four : length h.conn.opened ≡ 4) (s : List ℕ) (at : ℕ) (kind : Kind) where
-  frame_mark : (frame : Frame) (ty next : ℕ) → frame_at h.conn.role s at kind ≡ Got frame ty next → accepts (answered h (TakeFrame s at kind)) ≡ true → (acted h (TakeFrame s at kind)).conn.mark ≡ marks (Heard (view_of h.conn.role kind frame)) h.conn.mark
+  frame_mark : (frame : Frame) (ty next : ℕ) → frame_at h.conn.role s at kind ≡ read_as frame ty next → accepts (answered h (TakeFrame s at kind)) ≡ true → (acted h (TakeFrame s at kind)).conn.mark ≡ marks (Heard (view_of h.conn.role kind frame)) h.conn.mark
   unfolding after conn_after request_of
   frame_mark frame ty next e a =
       let v = live in
       let w = accepted_is h v kind at (frame_at h.conn.role s at kind) (refusing h.conn.role s at kind) (ap accepts (sym (answer_is h v s at kind)) ∙ a) in
       ap (λ (x : State). x.conn.mark) (acted_is h v s at kind ∙ w.1)
-      ∙ ap (λ (r : Reading). (after h (Heard (request_of h.conn.role kind at r).view)).conn.mark) e
+      ∙ ap (λ (r : Result Reading Refusal). (after h (Heard (view_in h.conn.role kind r))).conn.mark) e
       ∙ heard_mark h.conn _ (view_of h.conn.role kind frame)
     where
       open_now : is_open h.conn.mark ≡ true
@@ -110,9 +112,9 @@ module _ (h : State) (four : length h.conn.opened ≡ 4) (s : List ℕ) (at : �
   -- ---- what is closed
 
   closed_frame : is_open h.conn.mark ≡ false → (acted h (TakeFrame s at kind)).conn.mark ≡ h.conn.mark
-  closed_frame c = go (gate_at h.conn h.table).passes refl
+  closed_frame c = go (accepts (gate_at h.conn h.table)) refl
     where
-      go : (b : Bool) → (gate_at h.conn h.table).passes ≡ b → (acted h (TakeFrame s at kind)).conn.mark ≡ h.conn.mark
+      go : (b : Bool) → accepts (gate_at h.conn h.table) ≡ b → (acted h (TakeFrame s at kind)).conn.mark ≡ h.conn.mark
       go true g = absurd (not_both _ (gate_passes _ _ g) c)
       go false g = ap (λ (x : State). x.conn.mark) (barred h s at kind g).1
 

@@ -37,7 +37,7 @@ use Rattle.hosts.specs.OnlyThen.{does_not_fit, RecordsLeft, OnlyThen}
 
 -- ---- 120 where it does not fit
 
-gate_bars : (fit : Bool) (mark : Mark) → fit ≡ false → ((gate_of fit mark).passes ≡ false) × ((gate_of fit mark).answer ≡ DoesNotFit)
+gate_bars : (fit : Bool) (mark : Mark) → fit ≡ false → (accepts (gate_of fit mark) ≡ false) × (gate_of fit mark ≡ DoesNotFit)
 unfolding gate_of
 gate_bars fit mark e = rw e (refl, refl)
 

@@ -1,15 +1,13 @@
 -- The answer to every call by what was accepted before it: of every opening that was accepted, and of whatever calls came since. Demand 3 says it of STREAM and RESET_STREAM where there is credit for all; here it is said of every frame and every local call, rule 5 among the rules.
 -- Nothing is looked at but the opening, the history and what is handed in: no part of the connection or of the table.
-use Rattle.std.specs.Prelude.{ℕ, ◌≡◌, Bool, true, false, not, ◌||◌, ◌&&◌, List, ltb, leb}
+use Rattle.std.specs.Prelude.{ℕ, ◌≡◌, Bool, true, false, not, ◌||◌, ◌&&◌, List, ltb, leb, Some, None}
 use Rattle.kinds.specs.declared.Role.{Role}
 use Rattle.answers.specs.Choice.{◌⇒◌∣◌}
 use Rattle.answers.specs.declared.Answer.{Answer}
 use Rattle.answers.specs.declared.Answer.TheVariants.{Accepted, FlowControl, StreamLimit, StreamState, FinalSize, ProtocolViolation, Closed, AboveCeiling, NotServed, SizeKnown}
 use Rattle.wire.specs.Number.{number_at}
-use Rattle.wire.specs.declared.Number.TheVariants.{Is, CutShort}
 use Rattle.frames.specs.declared.Frame.{Frame}
 use Rattle.kinds.specs.declared.Kind.{Kind}
-use Rattle.frames.specs.declared.Reading.TheVariants.{Got, Refused}
 use Rattle.frames.specs.Reading.{frame_at}
 use Rattle.halves.specs.Stream.{stream_of, half_of, ordinal_of, peers, receives, sends, most_streams}
 use Rattle.entries.specs.declared.Entry.{Entry}
@@ -33,6 +31,8 @@ use Rattle.demands.specs.Hosts.{Act, answered, host_after}
 use Rattle.demands.specs.Hosts.Act.{TakeFrame, TakePacket, Make, HandOut}
 use Rattle.demands.specs.Heard.{shown_by, heard_by}
 use Rattle.hosts.specs.OnlyThen.{does_not_fit}
+use Rattle.frames.specs.Fields.{read_as}
+use Rattle.frames.specs.Fields.{refused_as}
 
 -- "the counted total is the sum, over streams, of the furthest end or final size that an accepted frame named"
 abbrev pub total_by : List Event → ℕ
@@ -94,13 +94,13 @@ pub record ByHistory (role : Role) (o : Limits) (t : List Entry) (xs : List Act)
   -- while the connection is open no CONNECTION_CLOSE was accepted
   pub none_closed : (host_after role o t xs).conn.mark ≡ Open → mark_by (heard_by role o t xs) ≡ Open
   -- a frame that can be read is shown whole, and judged by the state rules; one that cannot has its reading's answer
-  pub frame_shown : (host_after role o t xs).conn.mark ≡ Open → (s : List ℕ) (at : ℕ) (kind : Kind) (frame : Frame) (ty next : ℕ) → frame_at role s at kind ≡ Got frame ty next → shown_by (host_after role o t xs) s at kind ≡ Whole frame ty next
+  pub frame_shown : (host_after role o t xs).conn.mark ≡ Open → (s : List ℕ) (at : ℕ) (kind : Kind) (frame : Frame) (ty next : ℕ) → frame_at role s at kind ≡ read_as frame ty next → shown_by (host_after role o t xs) s at kind ≡ Whole frame ty next
   -- .. else its type where it could be read, and nothing where it could not
-  pub type_shown : (host_after role o t xs).conn.mark ≡ Open → (s : List ℕ) (at : ℕ) (kind : Kind) (answer : Answer) (ty value next : ℕ) → frame_at role s at kind ≡ Refused answer ty → number_at s at ≡ Is value next → shown_by (host_after role o t xs) s at kind ≡ Typed value
-  pub nothing_shown : (host_after role o t xs).conn.mark ≡ Open → (s : List ℕ) (at : ℕ) (kind : Kind) → number_at s at ≡ CutShort → shown_by (host_after role o t xs) s at kind ≡ Unseen
-  pub frame_judged : (host_after role o t xs).conn.mark ≡ Open → (s : List ℕ) (at : ℕ) (kind : Kind) (frame : Frame) (ty next : ℕ) → frame_at role s at kind ≡ Got frame ty next
+  pub type_shown : (host_after role o t xs).conn.mark ≡ Open → (s : List ℕ) (at : ℕ) (kind : Kind) (answer : Answer) (ty value next : ℕ) → frame_at role s at kind ≡ refused_as answer ty → number_at s at ≡ Some (value, next) → shown_by (host_after role o t xs) s at kind ≡ Typed value
+  pub nothing_shown : (host_after role o t xs).conn.mark ≡ Open → (s : List ℕ) (at : ℕ) (kind : Kind) → number_at s at ≡ None → shown_by (host_after role o t xs) s at kind ≡ Unseen
+  pub frame_judged : (host_after role o t xs).conn.mark ≡ Open → (s : List ℕ) (at : ℕ) (kind : Kind) (frame : Frame) (ty next : ℕ) → frame_at role s at kind ≡ read_as frame ty next
       → answered (host_after role o t xs) (TakeFrame s at kind) ≡ verdict_by o (heard_by role o t xs) (view_of role kind frame)
-  pub frame_refused : (host_after role o t xs).conn.mark ≡ Open → (s : List ℕ) (at : ℕ) (kind : Kind) (answer : Answer) (ty : ℕ) → frame_at role s at kind ≡ Refused answer ty → answered (host_after role o t xs) (TakeFrame s at kind) ≡ answer
+  pub frame_refused : (host_after role o t xs).conn.mark ≡ Open → (s : List ℕ) (at : ℕ) (kind : Kind) (answer : Answer) (ty : ℕ) → frame_at role s at kind ≡ refused_as answer ty → answered (host_after role o t xs) (TakeFrame s at kind) ≡ answer
   pub call_answered : (host_after role o t xs).conn.mark ≡ Open → (call : Call) → answered (host_after role o t xs) (Make call) ≡ reply_by o (heard_by role o t xs) (seated_call role call)
   -- "after 2^62-1 it is 103", closed or not
   pub number_answered : (space : Space) → answered (host_after role o t xs) (HandOut space) ≡ (ltb most_credit (next_by (heard_by role o t xs) space) ⇒ AboveCeiling ∣ Accepted)

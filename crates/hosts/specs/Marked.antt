@@ -3,7 +3,6 @@ use Rattle.std.specs.Prelude.{ℕ, ◌≡◌, true, false, List, length}
 use Rattle.answers.specs.Answers.{accepts}
 use Rattle.frames.specs.declared.Frame.{Frame}
 use Rattle.kinds.specs.declared.Kind.{Kind}
-use Rattle.frames.specs.declared.Reading.TheVariants.{Got}
 use Rattle.frames.specs.Reading.{frame_at}
 use Rattle.kinds.specs.declared.Space.{Space}
 use Rattle.streams.specs.Conn.{is_open}
@@ -14,10 +13,11 @@ use Rattle.accounts.specs.History.Event.{Got as Heard}
 use Rattle.accounts.specs.Advertised.{marks}
 use Rattle.demands.specs.Hosts.{Act, answered, acted, number_given}
 use Rattle.demands.specs.Hosts.Act.{TakeFrame, Make, HandOut}
+use Rattle.frames.specs.Fields.{read_as}
 
 pub record Marked (h : State) : Type 0 where
   -- "CONNECTION_CLOSE is accepted [..] and closes "by peer"": an accepted frame leaves the mark as the history has it
-  pub frame : (s : List ℕ) (at : ℕ) (kind : Kind) (frame : Frame) (ty next : ℕ) → frame_at h.conn.role s at kind ≡ Got frame ty next → accepts (answered h (TakeFrame s at kind)) ≡ true
+  pub frame : (s : List ℕ) (at : ℕ) (kind : Kind) (frame : Frame) (ty next : ℕ) → frame_at h.conn.role s at kind ≡ read_as frame ty next → accepts (answered h (TakeFrame s at kind)) ≡ true
       → (acted h (TakeFrame s at kind)).conn.mark ≡ marks (Heard (view_of h.conn.role kind frame)) h.conn.mark
   pub call : (call : Call) → (acted h (Make call)).conn.mark ≡ h.conn.mark
   pub number : (space : Space) → (acted h (HandOut space)).conn.mark ≡ h.conn.mark

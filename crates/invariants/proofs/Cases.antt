@@ -9,52 +9,48 @@ use lib.Dec.{ltb}
 use lib.ListN.{length}
 use Rattle.answers.proofs.Choice.{holds}
 use Rattle.wire.specs.Number.{plain_at}
-use Rattle.wire.specs.declared.Number.{Number}
-use Rattle.wire.specs.declared.Number.TheVariants as Number'
 use Rattle.wire.proofs.Sound.{found, with_number_law}
 use Rattle.invariants.specs.declared.Part.{Part}
-use Rattle.invariants.specs.declared.Bytes.{Bytes}
-use Rattle.invariants.specs.declared.Bytes.TheVariants as Bytes'
 use Rattle.invariants.specs.declared.Invariant.{Invariant}
-use Rattle.invariants.specs.declared.Invariant.TheVariants as Invariant'
 use Rattle.invariants.specs.Invariant.{part_of, after, bytes_after, with_bytes, invariant_of, with_invariant}
+use Rattle.std.specs.Prelude.{Option, Some, None}
 
 module _ (s : List ℕ) (at len : ℕ) where
-  pub are : at + len ≤ length s → bytes_after s (Number'.Is len at) ≡ Bytes'.Are (part_of at len)
+  pub are : at + len ≤ length s → bytes_after s (Some (len, at)) ≡ Some (part_of at len)
   unfolding bytes_after
   are h = simp (le-ltb _ _ h)
 
-  pub cut : length s < at + len → bytes_after s (Number'.Is len at) ≡ Bytes'.CutShort
+  pub cut : length s < at + len → bytes_after s (Some (len, at)) ≡ None
   unfolding bytes_after
   cut h = simp (lt-ltb _ _ h)
 
 -- bytes that were found are those that were counted, and are within the rest
-pub record Counted (s : List ℕ) (n : Number) (p : Part) : Type 0 where
-  pub count : n ≡ Number'.Is p.len p.at
+pub record Counted (s : List ℕ) (n : Option (ℕ × ℕ)) (p : Part) : Type 0 where
+  pub count : n ≡ Some (p.len, p.at)
   pub within : after p ≤ length s
 
-abbrev IfCounted : List ℕ → Number → Bytes → Type 0
-IfCounted s n (Bytes'.Are p) = Counted s n p
-IfCounted s n Bytes'.CutShort = Unit
+abbrev IfCounted : List ℕ → Option (ℕ × ℕ) → Option Part → Type 0
+IfCounted s n (Some p) = Counted s n p
+IfCounted s n None = Unit
 
-all_counted : (s : List ℕ) (n : Number) → IfCounted s n (bytes_after s n)
+all_counted : (s : List ℕ) (n : Option (ℕ × ℕ)) → IfCounted s n (bytes_after s n)
 unfolding bytes_after
-all_counted s (Number'.Is len at) =
-    holds (IfCounted s (Number'.Is len at)) (ltb (length s) (at + len)) Bytes'.CutShort (Bytes'.Are (part_of at len)) (λ e. tt)
+all_counted s (Some (len, at)) =
+    holds (IfCounted s (Some (len, at))) (ltb (length s) (at + len)) None (Some (part_of at len)) (λ e. tt)
     (λ e. record { count = refl; within = ltb-false _ _ e })
-all_counted s Number'.CutShort = tt
+all_counted s None = tt
 
-pub counted : (s : List ℕ) (n : Number) {p : Part} → bytes_after s n ≡ Bytes'.Are p → Counted s n p
+pub counted : (s : List ℕ) (n : Option (ℕ × ℕ)) {p : Part} → bytes_after s n ≡ Some p → Counted s n p
 counted s n e = subst (IfCounted s n) e (all_counted s n)
 
 -- what holds where the bytes end and wherever bytes were found holds of what goes on with them
-pub with_bytes_law : {X : Type 0} (P : X → Type 0) (b : Bytes) (x : X) (k : Part → X) → P x → ((p : Part) → b ≡ Bytes'.Are p → P (k p)) → P (with_bytes b x k)
-with_bytes_law P (Bytes'.Are p) x k h f = f p refl
-with_bytes_law P Bytes'.CutShort x k h f = h
+pub with_bytes_law : {X : Type 0} (P : X → Type 0) (b : Option Part) (x : X) (k : Part → X) → P x → ((p : Part) → b ≡ Some p → P (k p)) → P (with_bytes b x k)
+with_bytes_law P (Some p) x k h f = f p refl
+with_bytes_law P None x k h f = h
 
-pub with_invariant_law : {X : Type 0} (P : X → Type 0) (i : Invariant) (x : X) (k : ℕ → Part → Part → X) → P x → ((v : ℕ) (d u : Part) → i ≡ Invariant'.Is v d u → P (k v d u)) → P (with_invariant i x k)
-with_invariant_law P (Invariant'.Is v d u) x k h f = f v d u refl
-with_invariant_law P Invariant'.CutShort x k h f = h
+pub with_invariant_law : {X : Type 0} (P : X → Type 0) (i : Option Invariant) (x : X) (k : ℕ → Part → Part → X) → P x → ((v : ℕ) (d u : Part) → i ≡ Some (record { version = v; destination = d; source = u }) → P (k v d u)) → P (with_invariant i x k)
+with_invariant_law P (Some i) x k h f = f i.version i.destination i.source refl
+with_invariant_law P None x k h f = h
 
 -- both IDs lie after the first byte, one after the other, within the rest
 pub record Ordered (s : List ℕ) (d u : Part) : Type 0 where
@@ -62,15 +58,15 @@ pub record Ordered (s : List ℕ) (d u : Part) : Type 0 where
   pub ids : after d ≤ u.at
   pub within : after u ≤ length s
 
-abbrev IfOrdered : List ℕ → Invariant → Type 0
-IfOrdered s (Invariant'.Is v d u) = Ordered s d u
-IfOrdered s Invariant'.CutShort = Unit
+abbrev IfOrdered : List ℕ → Option Invariant → Type 0
+IfOrdered s (Some i) = Ordered s i.destination i.source
+IfOrdered s None = Unit
 
 -- a plain byte's bytes start after it
-pub byte_first : (s : List ℕ) (at : ℕ) {p : Part} → bytes_after s (plain_at s at 1) ≡ Bytes'.Are p → p.at ≡ at + 1
+pub byte_first : (s : List ℕ) (at : ℕ) {p : Part} → bytes_after s (plain_at s at 1) ≡ Some p → p.at ≡ at + 1
 byte_first s at e = (found s at 1 _ (counted s _ e).count).ends
 
-pub ordered : (s : List ℕ) {v : ℕ} {d u : Part} → invariant_of s ≡ Invariant'.Is v d u → Ordered s d u
+pub ordered : (s : List ℕ) {v : ℕ} {d u : Part} → invariant_of s ≡ Some (record { version = v; destination = d; source = u }) → Ordered s d u
 unfolding invariant_of
 ordered s e =
     subst (IfOrdered s) e

@@ -9,5 +9,5 @@ pub keep_firm : Firm 3 keep.ps keep.r keep_reads.Asked keep_reads.Post
 keep_firm = record {
   asks_nothing = λ κs a. tt;
   one_outcome = λ κs a x y ws vs p q. λ i.
-      ((p.0 ∙ sym q.0) i, ((p.1.0 ∙ sym q.1.0) i, ((p.1.1 ∙ sym q.1.1) i, (tt, (tt, (tt, (tt, (tt, (tt, tt)))))))));
+      ((p.0 ∙ sym q.0) i, ((p.1.0 ∙ sym q.1.0) i, ((p.1.1 ∙ sym q.1.1) i, (tt, (tt, (tt, tt))))));
 }

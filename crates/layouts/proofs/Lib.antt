@@ -1,4 +1,3 @@
 pub mod Going
-pub mod Places
 pub mod Sound
 pub mod Unique

@@ -30,26 +30,20 @@ pub struct Layout {
 }
 
 // Four numbers, those that are not there 0, and the place after them.
-#[derive(Drop)]
-pub enum Numbers {
-    Are {
-        a: u64,
-        b: u64,
-        c: u64,
-        d: u64,
-        next: usize,
-    },
-    CutShort,
+#[derive(Clone, Copy)]
+pub struct Numbers {
+    pub a: u64,
+    pub b: u64,
+    pub c: u64,
+    pub d: u64,
+    pub next: usize,
 }
 
 // The places of a tail's bytes, those that it does not have 0, and the place after it.
-#[derive(Drop)]
-pub enum Body {
-    Is {
-        at: usize,
-        len: usize,
-        token: usize,
-        next: usize,
-    },
-    Wrong,
+#[derive(Clone, Copy)]
+pub struct Body {
+    pub at: usize,
+    pub len: usize,
+    pub token: usize,
+    pub next: usize,
 }

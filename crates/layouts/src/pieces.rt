@@ -1,148 +1,126 @@
 // The parts of a frame after its type: numbers, some of them not there, and what a tail holds.
-ghost use Rattle.std.specs.Prelude.{◌≡◌, ◌<◌, length};
+ghost use Rattle.std.specs.Prelude.{◌≡◌, length};
 ghost use Rattle.layouts.specs.Body.{optional_at, numbers_at, sized_at, counted_at, remainder_at, identity_at, ranged_at, body_at};
 
 use crate::{Body, Numbers, Tail};
-use ranges::Ranges;
-use wire::Number;
 
 // A number that is there if `there`, and else is 0.
-fn read_optional(s: &[u8], at: usize, there: bool) -> Number
+#[tactic(auto, unfolding(crate::specs::Body::optional_at))]
+fn read_optional(s: &[u8], at: usize, there: bool) -> Option<(u64, usize)>
     ensures { result ≡ optional_at s.now at there }
 {
     if there {
         wire::read(s, at)
     } else {
-        Number::Is { value: 0, next: at }
+        Some((0, at))
     }
 }
 
 // The first n of four numbers, and 0 for the others.
-pub fn read_numbers(s: &[u8], at: usize, n: u8) -> Numbers
+#[tactic(auto, unfolding(crate::specs::Body::numbers_at, crate::specs::Body::optional_at))]
+pub fn read_numbers(s: &[u8], at: usize, n: u8) -> Option<Numbers>
     ensures { result ≡ numbers_at s.now at n }
 {
     if n == 0 {
-        return Numbers::Are {
+        return Some(Numbers {
             a: 0,
             b: 0,
             c: 0,
             d: 0,
             next: at,
-        };
+        });
     }
-    let Number::Is { value: a, next: p } = read_optional(s, at, 0 < n) else {
-        return Numbers::CutShort;
-    };
-    let Number::Is { value: b, next: q } = read_optional(s, p, 1 < n) else {
-        return Numbers::CutShort;
-    };
-    let Number::Is { value: c, next: r } = read_optional(s, q, 2 < n) else {
-        return Numbers::CutShort;
-    };
-    let Number::Is { value: d, next } = read_optional(s, r, 3 < n) else {
-        return Numbers::CutShort;
-    };
-    Numbers::Are { a, b, c, d, next }
+    let (a, p) = read_optional(s, at, 0 < n)?;
+    let (b, q) = read_optional(s, p, 1 < n)?;
+    let (c, r) = read_optional(s, q, 2 < n)?;
+    let (d, next) = read_optional(s, r, 3 < n)?;
+    Some(Numbers { a, b, c, d, next })
 }
 
 // So many bytes from a place on, if they are there.
-fn read_sized(s: &[u8], at: usize, n: u64) -> Body
+#[tactic(auto, unfolding(crate::specs::Body::sized_at))]
+fn read_sized(s: &[u8], at: usize, n: u64) -> Option<Body>
     ensures { result ≡ sized_at (length s.now) at n }
 {
-    if s.len() < at {
-        return Body::Wrong;
-    }
+    let left = s.len().checked_sub(at)?;
     let len = n as usize;
-    if s.len() - at < len {
-        return Body::Wrong;
+    if left < len {
+        return None;
     }
-    Body::Is {
+    Some(Body {
         at,
         len,
         token: 0,
         next: at + len,
-    }
+    })
 }
 
 // Bytes after their own number.
-fn read_counted(s: &[u8], at: usize) -> Body
+#[tactic(auto, unfolding(crate::specs::Body::counted_at))]
+fn read_counted(s: &[u8], at: usize) -> Option<Body>
     ensures { result ≡ counted_at s.now at }
 {
-    let Number::Is { value: n, next } = wire::read(s, at) else {
-        return Body::Wrong;
-    };
+    let (n, next) = wire::read(s, at)?;
     read_sized(s, next, n)
 }
 
 // All bytes that are left.
-fn read_remainder(s: &[u8], at: usize) -> Body
+#[tactic(auto, unfolding(crate::specs::Body::remainder_at))]
+fn read_remainder(s: &[u8], at: usize) -> Option<Body>
     ensures { result ≡ remainder_at (length s.now) at }
 {
-    if s.len() < at {
-        return Body::Wrong;
-    }
-    Body::Is {
+    let len = s.len().checked_sub(at)?;
+    Some(Body {
         at,
-        len: s.len() - at,
+        len,
         token: 0,
         next: s.len(),
-    }
-}
-
-fn wide(x: u8) -> usize
-    ensures { (result ≡ x) × (result < 256) }
-{
-    x as usize
+    })
 }
 
 // A connection ID after its length, a plain byte, and a reset token of 16 bytes after that.
-fn read_identity(s: &[u8], at: usize) -> Body
+#[tactic(auto, unfolding(crate::specs::Body::identity_at))]
+fn read_identity(s: &[u8], at: usize) -> Option<Body>
     ensures { result ≡ identity_at s.now at }
 {
-    if s.len() <= at {
-        return Body::Wrong;
-    }
-    let len = wide(s[at]);
+    let len = usize::from(*s.get(at)?);
     if s.len() - at - 1 < len + 16 {
-        return Body::Wrong;
+        return None;
     }
-    Body::Is {
+    Some(Body {
         at: at + 1,
         len,
         token: at + 1 + len,
         next: at + 1 + len + 16,
-    }
+    })
 }
 
 // The further ranges of an ACK, of which none may go below 0, nor the first.
-fn read_ranged(s: &[u8], at: usize, largest: u64, count: u64, first: u64) -> Body
+#[tactic(auto, unfolding(crate::specs::Body::ranged_at))]
+fn read_ranged(s: &[u8], at: usize, largest: u64, count: u64, first: u64) -> Option<Body>
     ensures { result ≡ ranged_at s.now at largest count first }
 {
-    if largest < first {
-        return Body::Wrong;
-    }
-    let Ranges::To { next } = ranges::all(s, at, count, largest - first) else {
-        return Body::Wrong;
-    };
-    Body::Is {
+    let least = largest.checked_sub(first)?;
+    let next = ranges::all(s, at, count, least)?;
+    Some(Body {
         at,
         len: 0,
         token: 0,
         next,
-    }
+    })
 }
 
 // What stands at a place for a tail; `a`, `c` and `d` are an ACK's largest number, its count and its first range.
-pub fn read_body(s: &[u8], at: usize, tail: Tail, a: u64, c: u64, d: u64) -> Body
+pub fn read_body(s: &[u8], at: usize, tail: Tail, a: u64, c: u64, d: u64) -> Option<Body>
     ensures { result ≡ body_at s.now at tail a c d }
 {
     match tail {
-        Tail::Nothing => Body::Is {
+        Tail::Nothing => Some(Body {
             at: 0,
             len: 0,
             token: 0,
             next: at,
-        },
+        }),
         Tail::Counted => read_counted(s, at),
         Tail::Remainder => read_remainder(s, at),
         Tail::Eight => read_sized(s, at, 8),

@@ -43,6 +43,7 @@ const ROWS: [u16; 31] = [
 ];
 
 // The tail that a digit stands for.
+#[tactic(auto, unfolding(crate::specs::Packed::tail_in))]
 fn tail_in(digit: u16) -> Tail
     ensures { result ≡ tail_in digit }
 {
@@ -57,6 +58,7 @@ fn tail_in(digit: u16) -> Tail
 }
 
 // The layout in a row of the table.
+#[tactic(auto, unfolding(crate::specs::Packed::layout_in))]
 fn unpack(row: u16) -> Layout
     ensures { result ≡ layout_in row }
 {

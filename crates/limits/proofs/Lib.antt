@@ -1,2 +1,1 @@
-pub mod Concluded
 pub mod Unique

@@ -1,5 +1,5 @@
 -- When a connection and its table fit (no 120), docs/RULES.md, "120 for the table": entry by entry, and the connection's own numbers.
-use Rattle.std.specs.Prelude.{ℕ, zero, suc, ◌+◌, ◌/◌, ◌%◌, Bool, true, false, not, ◌&&◌, List, length, ltb, leb, eqb}
+use Rattle.std.specs.Prelude.{ℕ, zero, suc, ◌+◌, ◌/◌, ◌%◌, Bool, true, false, not, ◌&&◌, List, length, ltb, leb, eqb, Option, Some, None}
 use Rattle.answers.specs.Choice.{◌⇒◌∣◌}
 use Rattle.halves.specs.Stream.{most_streams, entries, half_of}
 use Rattle.entries.specs.Entry.{entry_at}
@@ -9,8 +9,6 @@ use Rattle.streams.specs.Conn.{limits_fit}
 use Rattle.streams.specs.declared.Conn.{Conn}
 use Rattle.entries.specs.declared.Entry.{Entry}
 use Rattle.limits.specs.declared.fits.Part.{Part}
-use Rattle.limits.specs.declared.fits.Summed.{Summed}
-use Rattle.limits.specs.declared.fits.Summed.TheVariants.{To, Unfit}
 
 -- the entry at a place of the table, 64 to a half
 abbrev pub entry_fits : Conn → ℕ → Entry → Bool
@@ -47,17 +45,17 @@ fits c t =
     && conn_fits c))
 
 -- one step of the check over the table: the entry fits, and the running sum stays within the connection credit, so that it cannot wrap
-unfoldable pub summed_of : ℕ → ℕ → ℕ → ℕ → Entry → Summed → Summed
-summed_of credit opened init n e (To sum) =
-    not (entry_fits_as opened init n e) ⇒ Unfit
-    ∣ ltb credit (sum + e.end) ⇒ Unfit
-    ∣ To (sum + e.end)
-summed_of credit opened init n e Unfit = Unfit
+unfoldable pub summed_of : ℕ → ℕ → ℕ → ℕ → Entry → Option ℕ → Option ℕ
+summed_of credit opened init n e (Some sum) =
+    not (entry_fits_as opened init n e) ⇒ None
+    ∣ ltb credit (sum + e.end) ⇒ None
+    ∣ Some (sum + e.end)
+summed_of credit opened init n e None = None
 
 -- the end of that check: the total is the sum, and the connection fits
-unfoldable pub concluded_of : Conn → Summed → Bool
-concluded_of c (To sum) = eqb c.total sum && conn_fits c
-concluded_of c Unfit = false
+unfoldable pub concluded_of : Conn → Option ℕ → Bool
+concluded_of c (Some sum) = eqb c.total sum && conn_fits c
+concluded_of c None = false
 
 -- what the check of a half's entries asks of a connection
 abbrev pub part_of : Conn → ℕ → Part

@@ -3,18 +3,16 @@ ghost use Rattle.std.specs.Prelude.{◌≡◌, ◌&&◌};
 ghost use Rattle.entries.specs.Fitting.{is_fresh};
 ghost use Rattle.limits.specs.Rest.{opened_in, rest_of};
 
-use crate::fits::Summed;
+use crate::fits::Part;
 use entries::Entry;
 use streams::Conn;
 
 // How many of the 64 entries of a half are opened.
+#[tactic(auto, unfolding(crate::specs::Rest::opened_in))]
 pub fn opened_in(opened: u64) -> u64
     ensures { result ≡ opened_in opened }
 {
-    if Conn::MOST_STREAMS < opened {
-        return Conn::MOST_STREAMS;
-    }
-    opened
+    opened.min(Conn::MOST_STREAMS)
 }
 
 // One unopened entry more: whether all so far are as opening set them. There is no way out of the row of tests, so that a
@@ -26,23 +24,13 @@ pub fn untouched(before: bool, e: Entry, init: u64) -> bool
 }
 
 // The check of all 64 entries, from that of the first n and from whether the rest are as opening set them.
-pub fn with_rest(credit: u64, n: u64, init: u64, summed: Summed, same: bool) -> Summed
-    ensures { result ≡ rest_of credit n init summed same }
+#[tactic(auto, unfolding(crate::specs::Rest::rest_of))]
+pub fn with_rest(p: Part, n: u64, summed: Option<u64>, same: bool) -> Option<u64>
+    ensures { result ≡ rest_of p.credit n p.initial summed same }
 {
-    let Summed::To { sum } = summed else {
-        return Summed::Unfit;
-    };
-    if Conn::MOST_STREAMS <= n {
-        return summed;
+    let sum = summed?;
+    if n < Conn::MOST_STREAMS && (!same || Conn::MOST_CREDIT < p.initial || p.credit < sum) {
+        return None;
     }
-    if !same {
-        return Summed::Unfit;
-    }
-    if Conn::MOST_CREDIT < init {
-        return Summed::Unfit;
-    }
-    if credit < sum {
-        return Summed::Unfit;
-    }
-    summed
+    Some(sum)
 }

@@ -3,11 +3,11 @@
 use mathlib.Core.Path.{◌≡◌, refl, sym, ◌∙◌}
 use mathlib.Core.List.{List}
 use Prim.Native.Nat.{ℕ, zero, suc, ◌+◌, ◌-◌, ◌≤◌, ◌<◌}
-use native.Mathlib.Nat.{zero-add, sub-zero}
+use native.Mathlib.Nat.{zero-add}
 use native.Mathlib.Numerals.{add-one}
 use native.Mathlib.Omega.{arith}
 use lib.ListN.{length, take, drop, length-drop}
-use lib.Seq.{take_all}
+use lib.Seq.{take_all, length-take-le}
 use Rattle.search.specs.Words.{before, find_of}
 use Rattle.text.proofs.Steps.{ended}
 use Rattle.search.proofs.Search.{found}
@@ -19,11 +19,15 @@ module _ (s : List ℕ) (b end : ℕ) (e : end ≡ find_of s 0 b) where
   unfolding find_of
   from_start = e ∙ zero-add (before b s)
 
-  pub up_to : take (end - 0) (drop 0 s) ≡ take (before b s) s
-  up_to = rw (sub-zero, from_start)
+  pub up_to : take end s ≡ take (before b s) s
+  up_to = rw from_start
 
   pub within : end ≤ length s
   within = rw from_start (found b s).0
+
+  -- all of the part up to there is there
+  pub part : end ≡ length (take end s)
+  part = sym (length-take-le end s within)
 
 module _ (s : List ℕ) where
   -- all from a place on
@@ -43,7 +47,7 @@ module _ (s : List ℕ) where
   word_less zero at h e = absurd (omega arith)
   word_less (suc left) at h e = let z : suc left - 1 ≡ left = omega arith in rw (rest_of at, e, z) refl
 
-  pub word_here : (left end : ℕ) → left ≤ 0 → end ≡ find_of s 0 32 → take (end - 0) (drop 0 s) ≡ first_word (from_word s left)
+  pub word_here : (left end : ℕ) → left ≤ 0 → end ≡ find_of s 0 32 → take end s ≡ first_word (from_word s left)
   unfolding from_word first_word
   word_here zero end h e = up_to s 32 end e
   word_here (suc left) end h e = absurd (omega arith)

@@ -1,16 +1,13 @@
 -- A line as words with single blanks (32) between them, and what a word is: a number with or without a sign, or bytes.
-use Rattle.std.specs.Prelude.{ℕ, zero, suc, ◌<◌, ◌≡◌, Bool, true, false, not, ◌&&◌, ◌||◌, List, [], ◌∷◌, ◌++◌, length, take, drop, eqb}
+use Rattle.std.specs.Prelude.{ℕ, zero, suc, ◌<◌, ◌≡◌, Bool, true, false, not, ◌&&◌, ◌||◌, List, [], ◌∷◌, ◌++◌, length, take, drop, eqb, Option, Some, None, Result, Ok}
 use Rattle.answers.specs.Choice.{◌⇒◌∣◌}
 use Rattle.text.specs.Text.{every}
 use Rattle.text.specs.Decimal.{parsed_of}
-use Rattle.text.specs.declared.decimal.Parsed.{Parsed}
-use Rattle.text.specs.declared.decimal.Parsed.TheVariants as Parsed'
 use Rattle.hexes.specs.Hex.{pairs_of}
-use Rattle.hexes.specs.declared.Pairs.{Pairs}
-use Rattle.hexes.specs.declared.Pairs.TheVariants.{Are}
 use Rattle.search.specs.Words.{before, same_of}
 use Rattle.lines.specs.declared.words.Signed.{Signed}
-use Rattle.lines.specs.declared.words.Signed.TheVariants.{Plus, Minus, Wrong}
+use Rattle.lines.specs.declared.words.Signed.TheVariants.{Plus, Minus}
+use Rattle.hexes.specs.declared.HexError.{HexError}
 
 unfoldable pub blanks : List ℕ → ℕ
 blanks [] = 0
@@ -47,15 +44,15 @@ unfoldable pub word_of : List ℕ → ℕ → List ℕ
 word_of s n = first_word (from_word s n)
 
 -- a number with "-" before it, or without
-unfoldable pub as_signed : Bool → Parsed → Signed
-as_signed minus (Parsed'.Is value) =
-    minus ⇒ Minus value
-    ∣ Plus value
-as_signed minus Parsed'.Wrong = Wrong
+unfoldable pub as_signed : Bool → Option ℕ → Option Signed
+as_signed minus (Some value) =
+    minus ⇒ Some (Minus value)
+    ∣ Some (Plus value)
+as_signed minus None = None
 
 -- a word as a number that may have "-" (45) before its digits
-unfoldable pub signed_of : List ℕ → Signed
-signed_of [] = Wrong
+unfoldable pub signed_of : List ℕ → Option Signed
+signed_of [] = None
 signed_of (x ∷ w) =
     eqb x 45 ⇒ as_signed true (parsed_of w)
     ∣ as_signed false (parsed_of (x ∷ w))
@@ -65,9 +62,9 @@ unfoldable pub is_none : List ℕ → Bool
 is_none w = same_of w (45 ∷ [])
 
 -- a word as bytes, none or pairs of digits, and the output at exit
-unfoldable pub bytes_of : List ℕ → List ℕ → Pairs × List ℕ
+unfoldable pub bytes_of : List ℕ → List ℕ → Result ℕ HexError × List ℕ
 bytes_of w out =
-    is_none w ⇒ (Are 0, out)
+    is_none w ⇒ (Ok 0, out)
     ∣ pairs_of w out
 
 -- what is meant by a word and by words: none is empty or has a blank

@@ -1,5 +1,6 @@
 // The listing of a payload, page by page.
 use crate::output;
+use owned::Owned;
 use pages::Page;
 use std::io;
 use streams::Mark;
@@ -9,25 +10,20 @@ use streams::Mark;
 fn walk(to: &impl Print, first: Page, s: &[u8], buf: &mut [u8]) -> io::Result<Mark> {
     let mut now = first;
     for _ in 0..s.len() {
-        let next = pages::fill(now, s, buf);
-        now = next;
+        now = pages::fill(now, s, buf);
         output::flush(to, buf, now.used)?;
         if !now.full {
             break;
         }
     }
-    let conn = now.conn;
-    Ok(conn.mark)
+    Ok(now.conn.mark)
 }
 
 // Rows and last line.
 pub fn list(to: &impl Print, s: &[u8]) -> io::Result<()> {
-    let small = pages::small();
-    let opened = small.opened;
-    let conn = opened.conn;
-    let table = small.table;
+    let Owned { told, table } = pages::small();
     let first = Page {
-        conn,
+        conn: told.conn,
         table,
         at: 0,
         used: 0,

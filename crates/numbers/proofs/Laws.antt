@@ -12,19 +12,17 @@ use Rattle.answers.proofs.Choice.{holds}
 use Rattle.answers.proofs.Distinct.{impossible}
 use Rattle.numbers.specs.declared.Size.{Size}
 use Rattle.numbers.specs.declared.Size.TheVariants.{One, Two, Three, Four}
-use Rattle.numbers.specs.declared.Recovered.{Recovered}
-use Rattle.numbers.specs.declared.Recovered.TheVariants as Recovered'
-use Rattle.numbers.specs.declared.Length.{Length}
-use Rattle.numbers.specs.declared.Length.TheVariants as Length'
 use Rattle.numbers.specs.Numbers.{bytes_in, window_of, candidate_of, nearest_of, recovered_of, none, twice_of, length_after, length_of}
 use Rattle.numbers.specs.Sound.{Sound, Enough}
 use Rattle.numbers.proofs.Nearest.{each_window, stay}
+use Rattle.std.specs.Prelude.{Result, Ok}
+use Rattle.answers.specs.declared.Answer.{Answer}
 
 pub window_bounds : (size : Size) → (2 ≤ window_of size) × (window_of size ≤ 2 ^ 32)
 window_bounds = each_window (λ (W : ℕ). (2 ≤ W) × (W ≤ 2 ^ 32)) (omega arith) (omega arith) (omega arith) (omega arith)
 
 -- while none is recorded, every truncated number is itself
-pub itself : (size : Size) (t : ℕ) → t < window_of size → recovered_of 0 size t ≡ Recovered'.Is t
+pub itself : (size : Size) (t : ℕ) → t < window_of size → recovered_of 0 size t ≡ Ok t
 unfolding recovered_of
 itself size t h =
     let W = window_of size in
@@ -46,11 +44,11 @@ nearest_agrees E W t =
     Agrees n = n % W ≡ t % W
 
 -- a recovered number is in range and agrees with what was read
-pub sound : (E t : ℕ) (size : Size) {n : ℕ} → recovered_of E size t ≡ Recovered'.Is n → Sound size t n
+pub sound : (E t : ℕ) (size : Size) {n : ℕ} → recovered_of E size t ≡ Ok n → Sound size t n
 unfolding recovered_of
 sound E t size {n} =
     let W = window_of size in
-    holds (λ (r : Recovered). r ≡ Recovered'.Is n → Sound size t n) (ltb (nearest_of E W t) (2 ^ 62)) _ _ (λ l e.
+    holds (λ (r : Result ℕ Answer). r ≡ Ok n → Sound size t n) (ltb (nearest_of E W t) (2 ^ 62)) _ _ (λ l e.
     let m : nearest_of E W t ≡ n = cc in
     rw (← m) (record { low = ltb-true (nearest_of E W t) (2 ^ 62) l; agrees = nearest_agrees E W t })) (λ l e.
     impossible cc)
@@ -64,7 +62,7 @@ module _ (pn next : ℕ) (acked : ℤ) (distance : next ≤ pn → pos pn -ℤ a
   given l b size k s h g =
       record { low = l; d = pn + 1 - next; distance = distance b; above = omega arith; enough = h; least = rw s (lower k (twice_of pn next) g) }
 
-  enough_after : {size : Size} → length_after pn next ≡ Length'.Is size → Enough pn acked size
+  enough_after : {size : Size} → length_after pn next ≡ Ok size → Enough pn acked size
   unfolding length_after
   enough_after {size} =
       let w = twice_of pn next in
@@ -75,13 +73,13 @@ module _ (pn next : ℕ) (acked : ℤ) (distance : next ≤ pn → pos pn -ℤ a
       holds Given (leb w (256 ^ 3)) _ _ (λ h. one_is Three (given l b Three 2 refl (leb-true w _ h) (leb-false w _ f))) (λ f.
       holds Given (leb w (256 ^ 4)) _ _ (λ h. one_is Four (given l b Four 3 refl (leb-true w _ h) (leb-false w _ f))) (λ f. never))))))
     where
-      Given : Length → Type 0
-      Given r = r ≡ Length'.Is size → Enough pn acked size
+      Given : Result Size Answer → Type 0
+      Given r = r ≡ Ok size → Enough pn acked size
 
       never : Given none
       never e = impossible cc
 
-      one_is : (s : Size) → Enough pn acked s → Given (Length'.Is s)
+      one_is : (s : Size) → Enough pn acked s → Given (Ok s)
       one_is s g e = let q : s ≡ size = cc in subst (Enough pn acked) q g
 
 -- the distance from acked, by one above it
@@ -93,7 +91,7 @@ pub from_none : (pn : ℕ) → 0 ≤ pn → pos pn -ℤ negsuc 0 ≡ pos (pn + 1
 from_none pn b = ap pos (omega arith)
 
 -- a size that is given is enough, and the least that is
-pub enough : (pn : ℕ) (acked : ℤ) {size : Size} → length_of pn acked ≡ Length'.Is size → Enough pn acked size
+pub enough : (pn : ℕ) (acked : ℤ) {size : Size} → length_of pn acked ≡ Ok size → Enough pn acked size
 unfolding length_of
 enough pn (pos a) = enough_after pn (a + 1) (pos a) (from_acked pn a)
 enough pn (negsuc zero) = enough_after pn 0 (negsuc 0) (from_none pn)

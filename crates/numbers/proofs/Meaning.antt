@@ -11,13 +11,13 @@ use Rattle.answers.specs.declared.Answer.TheVariants.{NoSuchNumber}
 use Rattle.answers.proofs.Choice.{holds, below_or_not}
 use Rattle.answers.proofs.Distinct.{impossible}
 use Rattle.numbers.specs.declared.Size.{Size}
-use Rattle.numbers.specs.declared.Recovered.{Recovered}
-use Rattle.numbers.specs.declared.Recovered.TheVariants.{Is, Refused}
 use Rattle.numbers.specs.Numbers.{window_of, candidate_of, nearest_of, recovered_of}
 use Rattle.numbers.specs.Sound.{Sound}
 use Rattle.numbers.specs.Nearest.{between, Nearest}
 use Rattle.numbers.proofs.Nearest.{each_window, Low, High, up, down, stay}
 use Rattle.numbers.proofs.Laws.{window_bounds, nearest_agrees, sound}
+use Rattle.std.specs.Prelude.{Result, Ok, Err}
+use Rattle.answers.specs.declared.Answer.{Answer}
 
 -- of two numbers that agree, the higher one is at least a window above
 apart : (W a b : ℕ) → a % W ≡ b % W → a < b → a + W ≤ b
@@ -72,13 +72,13 @@ module _ (E W t : ℕ) where
         by_rows (λ (n : ℕ). n < 2 ^ 62) (λ low. low.1) (λ high. omega arith) (λ low high. omega arith)
 
 module _ (E t : ℕ) (size : Size) where
-  is_nearest : {n : ℕ} → recovered_of E size t ≡ Is n → nearest_of E (window_of size) t ≡ n
+  is_nearest : {n : ℕ} → recovered_of E size t ≡ Ok n → nearest_of E (window_of size) t ≡ n
   unfolding recovered_of
   is_nearest {n} =
-      holds (λ (r : Recovered). r ≡ Is n → nearest_of E (window_of size) t ≡ n) (ltb (nearest_of E (window_of size) t) (2 ^ 62)) _ _ (λ l e. cc) (λ l e. impossible cc)
+      holds (λ (r : Result ℕ Answer). r ≡ Ok n → nearest_of E (window_of size) t ≡ n) (ltb (nearest_of E (window_of size) t) (2 ^ 62)) _ _ (λ l e. cc) (λ l e. impossible cc)
 
   -- what is recovered is the nearest number
-  pub recovered_nearest : {n : ℕ} → recovered_of E size t ≡ Is n → Nearest E size t n
+  pub recovered_nearest : {n : ℕ} → recovered_of E size t ≡ Ok n → Nearest E size t n
   recovered_nearest {n} e =
       record { among = sound E t size e; nearest = λ m k. (near m k).0; higher = λ m k. (near m k).1 }
     where
@@ -95,15 +95,15 @@ module _ (E t : ℕ) (size : Size) where
       omega (arith, a.higher m b.among (omega arith), b.higher n a.among (omega arith))
 
   -- 111 never comes while E is a packet number itself
-  pub always_one : E < 2 ^ 62 → (n : ℕ) × (recovered_of E size t ≡ Is n)
+  pub always_one : E < 2 ^ 62 → (n : ℕ) × (recovered_of E size t ≡ Ok n)
   unfolding recovered_of
   always_one h =
       let room = each_window (λ (W : ℕ). E / W * W + W ≤ 2 ^ 62) (omega arith) (omega arith) (omega arith) (omega arith) size in
       (nearest_of E (window_of size) t, rw (lt-ltb _ _ (stays_low E (window_of size) t (window_bounds size).0 room)))
 
   -- so the nearest number is recovered
-  pub nearest_recovered : E < 2 ^ 62 → {n : ℕ} → Nearest E size t n → recovered_of E size t ≡ Is n
-  nearest_recovered h a = let r = always_one h in r.1 ∙ ap Is (one_nearest (recovered_nearest r.1) a)
+  pub nearest_recovered : E < 2 ^ 62 → {n : ℕ} → Nearest E size t n → recovered_of E size t ≡ Ok n
+  nearest_recovered h a = let r = always_one h in r.1 ∙ ap Ok (one_nearest (recovered_nearest r.1) a)
 
 -- a packet number within half a window of E, open below and closed above, is what its low bytes stand for, wherever E stands
 module _ (E n : ℕ) (size : Size) where
@@ -116,7 +116,7 @@ module _ (E n : ℕ) (size : Size) where
       (λ a. let x = apart W m n e a in absurd (⊎_elim (λ p. omega arith) (⊎_elim (λ p. omega arith) (λ p. omega arith)) s))
       (λ a. below_or_not n m (λ b. let x = apart W n m (sym e) b in absurd (⊎_elim (λ p. omega arith) (⊎_elim (λ p. omega arith) (λ p. omega arith)) s)) (λ b. omega arith))
 
-  pub exact : n < 2 ^ 62 → n ≤ E + window_of size / 2 → E < n + window_of size / 2 → recovered_of E size (n % window_of size) ≡ Is n
+  pub exact : n < 2 ^ 62 → n ≤ E + window_of size / 2 → E < n + window_of size / 2 → recovered_of E size (n % window_of size) ≡ Ok n
   unfolding recovered_of
   exact l above below =
       let W = window_of size in
@@ -130,14 +130,14 @@ module _ (t : ℕ) (size : Size) where
   at_limit : candidate_of (2 ^ 62) (window_of size) t ≡ 2 ^ 62 + t % window_of size
   at_limit = ap (λ (x : ℕ). x + t % window_of size) (each_window (λ (W : ℕ). 2 ^ 62 / W * W ≡ 2 ^ 62) refl refl refl refl size)
 
-  pub refused_at_limit : t % window_of size ≤ window_of size / 2 → recovered_of (2 ^ 62) size t ≡ Refused NoSuchNumber
+  pub refused_at_limit : t % window_of size ≤ window_of size / 2 → recovered_of (2 ^ 62) size t ≡ Err NoSuchNumber
   unfolding recovered_of
   refused_at_limit h =
       let W = window_of size in
       let b = window_bounds size in
       rw (le-ltb (nearest_of (2 ^ 62) W t) (2 ^ 62) (by_rows (2 ^ 62) W t (λ (n : ℕ). 2 ^ 62 ≤ n) (λ low. absurd (omega (arith, at_limit))) (λ high. absurd (omega (arith, at_limit))) (λ low high. omega (arith, at_limit))))
 
-  pub lowered_at_limit : window_of size / 2 < t % window_of size → recovered_of (2 ^ 62) size t ≡ Is (2 ^ 62 + t % window_of size - window_of size)
+  pub lowered_at_limit : window_of size / 2 < t % window_of size → recovered_of (2 ^ 62) size t ≡ Ok (2 ^ 62 + t % window_of size - window_of size)
   unfolding recovered_of
   lowered_at_limit h =
       let W = window_of size in
@@ -145,5 +145,5 @@ module _ (t : ℕ) (size : Size) where
       let n : nearest_of (2 ^ 62) W t ≡ 2 ^ 62 + t % W - W = down (2 ^ 62) W t (λ low. omega (arith, at_limit)) (omega (arith, at_limit), omega (arith, at_limit)) ∙ ap (λ (x : ℕ). x - W) at_limit in
       rw (n, lt-ltb (2 ^ 62 + t % W - W) (2 ^ 62) (omega (arith, mod-lt t {m = W} (omega arith))))
 
-  pub only_so_at_limit : recovered_of (2 ^ 62) size t ≡ Refused NoSuchNumber → t % window_of size ≤ window_of size / 2
+  pub only_so_at_limit : recovered_of (2 ^ 62) size t ≡ Err NoSuchNumber → t % window_of size ≤ window_of size / 2
   only_so_at_limit e = below_or_not (window_of size / 2) (t % window_of size) (λ h. let f = lowered_at_limit h in impossible cc) (λ h. h)

@@ -1,16 +1,14 @@
--- The rows of `nearest_of`, each under the tests that lead there, and the answer from them.
+-- The rows of `nearest_of`, each under the tests that lead there.
 -- Assumes nothing.
 use mathlib.Core.Path.{◌≡◌}
 use mathlib.Core.Bool.{false, ◌&&◌}
 use Prim.Native.Nat.{ℕ, ◌+◌, ◌-◌, ◌/◌, ◌^◌, ◌≤◌, ◌<◌}
-use native.Mathlib.Omega.{arith}
 use borrow.Author.Tests.{lt-ltb, le-leb, lt-leb}
 use lib.Dec.{leb}
 use Rattle.answers.proofs.Choice.{below_or_not}
 use Rattle.numbers.specs.declared.Size.{Size}
 use Rattle.numbers.specs.declared.Size.TheVariants.{One, Two, Three, Four}
-use Rattle.numbers.specs.declared.Recovered.{Recovered}
-use Rattle.numbers.specs.Numbers.{window_of, candidate_of, nearest_of, in_range, recovered_of}
+use Rattle.numbers.specs.Numbers.{window_of, candidate_of, nearest_of}
 
 -- what holds of each of the four windows holds of every size's
 pub each_window {ℓ} : (P : ℕ → Type ℓ) → P (256 ^ 1) → P (256 ^ 2) → P (256 ^ 3) → P (256 ^ 4) → (size : Size) → P (window_of size)
@@ -18,10 +16,6 @@ each_window P a b c d One = a
 each_window P a b c d Two = b
 each_window P a b c d Three = c
 each_window P a b c d Four = d
-
--- the candidate fits a word: 2^64 is a multiple of each window
-pub candidate_fits : (E t : ℕ) → E < 2 ^ 64 → (size : Size) → candidate_of E (window_of size) t < 2 ^ 64
-candidate_fits E t h = each_window (λ (W : ℕ). candidate_of E W t < 2 ^ 64) (omega arith) (omega arith) (omega arith) (omega arith)
 
 -- what the first row asks: the candidate is too low, and there is room above it
 abbrev pub Low : ℕ → ℕ → ℕ → Type 0
@@ -49,8 +43,3 @@ module _ (E W t : ℕ) where
     pub stay : (High E W t → ⊥) → nearest_of E W t ≡ candidate_of E W t
     unfolding nearest_of
     stay high = simp (one_fails _ _ _ _ low, one_fails _ _ _ _ high)
-
--- the answer, from the window and the nearest number
-pub from_nearest : (E t w x : ℕ) (size : Size) (r : Recovered) → w ≡ window_of size → nearest_of E w t ≡ x → r ≡ in_range x → r ≡ recovered_of E size t
-unfolding recovered_of
-from_nearest E t w x size r e v a = rw (← e, v) a

@@ -14,16 +14,15 @@ use Rattle.answers.proofs.Choice.{holds, below_or_not}
 use Rattle.answers.proofs.Distinct.{impossible}
 use Rattle.numbers.specs.declared.Size.{Size}
 use Rattle.numbers.specs.declared.Size.TheVariants.{One, Two, Three, Four}
-use Rattle.numbers.specs.declared.Length.{Length}
-use Rattle.numbers.specs.declared.Length.TheVariants.{Is, Refused}
 use Rattle.numbers.specs.Numbers.{none, twice_of, length_after, length_of}
 use Rattle.numbers.specs.Sound.{NoLength}
 use Rattle.numbers.specs.Sound.NoLength.{TooFar, AboveRange, BelowNone, NotBelow}
 use Rattle.numbers.proofs.Lengths.{above_ceiling, not_below, too_far}
 use Rattle.numbers.proofs.Laws.{from_acked, from_none}
+use Rattle.std.specs.Prelude.{Result, Ok, Err}
 
 module _ (pn next : ℕ) (acked : ℤ) (distance : next ≤ pn → pos pn -ℤ acked ≡ pos (pn + 1 - next)) where
-  reason_after : (pn < next → lt_z acked (pos pn) ≡ false) → {a : Answer} → length_after pn next ≡ Refused a → (a ≡ AboveCeiling) × NoLength pn acked
+  reason_after : (pn < next → lt_z acked (pos pn) ≡ false) → {a : Answer} → length_after pn next ≡ Err a → (a ≡ AboveCeiling) × NoLength pn acked
   unfolding length_after
   reason_after not_below {a} =
       let w = twice_of pn next in
@@ -34,13 +33,13 @@ module _ (pn next : ℕ) (acked : ℤ) (distance : next ≤ pn → pos pn -ℤ a
       holds Why (leb w (256 ^ 3)) _ _ (λ h. given Three) (λ h.
       holds Why (leb w (256 ^ 4)) _ _ (λ h. given Four) (λ f. one (TooFar (pn + 1 - next) (distance (ltb-false pn next b)) (leb-false w (256 ^ 4) f))))))))
     where
-      Why : Length → Type 0
-      Why r = r ≡ Refused a → (a ≡ AboveCeiling) × NoLength pn acked
+      Why : Result Size Answer → Type 0
+      Why r = r ≡ Err a → (a ≡ AboveCeiling) × NoLength pn acked
 
       one : NoLength pn acked → Why none
       one r e = (cc, r)
 
-      given : (s : Size) → Why (Is s)
+      given : (s : Size) → Why (Ok s)
       given s e = impossible cc
 
   far_after : (d : ℕ) → pos pn -ℤ acked ≡ pos d → 256 ^ 4 < 2 * d → length_after pn next ≡ none
@@ -50,7 +49,7 @@ module _ (pn next : ℕ) (acked : ℤ) (distance : next ≤ pn → pos pn -ℤ a
       (above_ceiling pn next)
 
 -- a refusal has one of the reasons
-pub reason : (pn : ℕ) (acked : ℤ) {a : Answer} → length_of pn acked ≡ Refused a → (a ≡ AboveCeiling) × NoLength pn acked
+pub reason : (pn : ℕ) (acked : ℤ) {a : Answer} → length_of pn acked ≡ Err a → (a ≡ AboveCeiling) × NoLength pn acked
 unfolding length_of
 reason pn (pos a) = reason_after pn (a + 1) (pos a) (from_acked pn a) (λ h. le-ltb a pn (omega arith))
 reason pn (negsuc zero) = reason_after pn 0 (negsuc 0) (from_none pn) (λ h. absurd (omega arith))

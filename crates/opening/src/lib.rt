@@ -36,16 +36,18 @@ fn unused(role: Role, limits: Limits, mark: Mark) -> Conn
 
 impl Opened {
     // A connection that was just opened, or 103 for a limit above its ceiling.
+    #[tactic(auto, unfolding(crate::specs::Opening::opening_of))]
     pub fn open(role: Role, limits: Limits) -> Opened
         ensures { result ≡ opening_of role limits }
     {
         if limits.fit() {
-            return Opened {
+            Opened {
                 answer: Answer::Accepted,
                 conn: unused(role, limits, Mark::Open),
-            };
+            }
+        } else {
+            Opened::refused(role, Answer::AboveCeiling)
         }
-        Opened::refused(role, Answer::AboveCeiling)
     }
 
     // An opening that is refused.
@@ -65,23 +67,26 @@ impl Opened {
 }
 
 // Opens a connection whose table has n entries.
+#[tactic(auto, unfolding(crate::specs::Opening::opening_when))]
 pub fn for_table(role: Role, n: usize, limits: Limits) -> Opened
     ensures { result ≡ opening_when role n limits }
 {
     if n == Conn::ENTRIES {
-        return Opened::open(role, limits);
+        Opened::open(role, limits)
+    } else {
+        Opened::refused(role, Answer::DoesNotFit)
     }
-    Opened::refused(role, Answer::DoesNotFit)
 }
 
 // How many entries opening sets.
+#[tactic(auto, unfolding(crate::specs::Opening::entries_of))]
 pub fn count(answer: Answer) -> usize
     ensures { result ≡ entries_of answer }
 {
-    let Answer::Accepted = answer else {
-        return 0;
-    };
-    Conn::ENTRIES
+    match answer {
+        Answer::Accepted => Conn::ENTRIES,
+        _ => 0,
+    }
 }
 
 // The places that a half has in the table.
@@ -102,11 +107,10 @@ pub fn entry(i: usize, limits: Limits) -> Entry
 pub fn room() -> [Entry; Conn::ENTRIES]
     ensures { result ≡ replicate entries (fresh 0) }
 {
-    let none = Entry::UNKNOWN;
-    let e = Entry {
+    let none = Entry {
         credit: 0,
         end: 0,
-        size: none,
+        size: Entry::UNKNOWN,
     };
-    [e; Conn::ENTRIES]
+    [none; Conn::ENTRIES]
 }

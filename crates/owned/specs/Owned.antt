@@ -8,11 +8,12 @@ use Rattle.streams.specs.declared.Limits.{Limits}
 use Rattle.opening.specs.Opening.{opening_when}
 use Rattle.tables.specs.Opened.{opened_table}
 use Rattle.single.specs.Single.{took_frame_of, frame_table}
-use Rattle.owned.specs.declared.OwnedOpened.{OwnedOpened}
-use Rattle.owned.specs.declared.OwnedFrame.{OwnedFrame}
+use Rattle.opening.specs.declared.Opened.{Opened}
+use Rattle.steps.specs.declared.TookFrame.{TookFrame}
+use Rattle.owned.specs.declared.Owned.{Owned}
 
-abbrev pub owned_opened_of : Role → List Entry → Limits → OwnedOpened
-owned_opened_of role t limits = record { opened = opening_when role (length t) limits; table = opened_table role t limits }
+abbrev pub owned_opened_of : Role → List Entry → Limits → Owned Opened
+owned_opened_of role t limits = record { told = opening_when role (length t) limits; table = opened_table role t limits }
 
-abbrev pub owned_frame_of : Conn → List Entry → List ℕ → ℕ → Kind → OwnedFrame
-owned_frame_of c t s at kind = record { took = took_frame_of c t s at kind; table = frame_table c t s at kind }
+abbrev pub owned_frame_of : Conn → List Entry → List ℕ → ℕ → Kind → Owned TookFrame
+owned_frame_of c t s at kind = record { told = took_frame_of c t s at kind; table = frame_table c t s at kind }

@@ -11,24 +11,19 @@ use opening::Opened;
 use steps::TookFrame;
 use streams::{Conn, Limits};
 
+// What a call told, whichever it was, and the table after it.
 #[derive(Clone, Copy)]
-pub struct OwnedOpened {
-    pub opened: Opened,
+pub struct Owned<T> {
+    pub told: T,
     pub table: [Entry; Conn::ENTRIES],
 }
 
-#[derive(Clone, Copy)]
-pub struct OwnedFrame {
-    pub took: TookFrame,
-    pub table: [Entry; Conn::ENTRIES],
-}
-
-pub fn open(table: [Entry; Conn::ENTRIES], role: Role, limits: Limits) -> OwnedOpened
+pub fn open(table: [Entry; Conn::ENTRIES], role: Role, limits: Limits) -> Owned<Opened>
     ensures { result ≡ owned_opened_of role table limits }
 {
     let mut t = table;
-    let opened = tables::open(&mut t, role, limits);
-    OwnedOpened { opened, table: t }
+    let told = tables::open(&mut t, role, limits);
+    Owned { told, table: t }
 }
 
 pub fn take_frame(
@@ -37,10 +32,10 @@ pub fn take_frame(
     s: &[u8],
     at: usize,
     kind: Kind,
-) -> OwnedFrame
+) -> Owned<TookFrame>
     ensures { result ≡ owned_frame_of c table s.now at kind }
 {
     let mut t = table;
-    let took = single::take_frame(c, &mut t, s, at, kind);
-    OwnedFrame { took, table: t }
+    let told = single::take_frame(c, &mut t, s, at, kind);
+    Owned { told, table: t }
 }

@@ -7,20 +7,9 @@ ghost use Rattle.owned_calls.specs.Owned.{owned_packet_of, owned_call_of};
 use calls::Call;
 use endings::Took;
 use entries::Entry;
+use owned::Owned;
 use spaces::Records;
 use streams::{Called, Conn};
-
-#[derive(Clone, Copy)]
-pub struct OwnedPacket {
-    pub took: Took,
-    pub table: [Entry; Conn::ENTRIES],
-}
-
-#[derive(Clone, Copy)]
-pub struct OwnedCall {
-    pub called: Called,
-    pub table: [Entry; Conn::ENTRIES],
-}
 
 pub fn take_packet(
     c: Conn,
@@ -28,18 +17,18 @@ pub fn take_packet(
     table: [Entry; Conn::ENTRIES],
     first: u8,
     s: &[u8],
-) -> OwnedPacket
+) -> Owned<Took>
     ensures { result ≡ owned_packet_of c records table first s.now }
 {
     let mut t = table;
-    let took = receive::take_packet(c, records, &mut t, first, s);
-    OwnedPacket { took, table: t }
+    let told = receive::take_packet(c, records, &mut t, first, s);
+    Owned { told, table: t }
 }
 
-pub fn call(c: Conn, table: [Entry; Conn::ENTRIES], call: Call) -> OwnedCall
+pub fn call(c: Conn, table: [Entry; Conn::ENTRIES], call: Call) -> Owned<Called>
     ensures { result ≡ owned_call_of c table call }
 {
     let mut t = table;
-    let called = local::call(c, &mut t, call);
-    OwnedCall { called, table: t }
+    let told = local::call(c, &mut t, call);
+    Owned { told, table: t }
 }

@@ -1,6 +1,6 @@
 -- A packet up to its frames, docs/RULES.md, "Taking a packet". The order of checks: 120; closed 101; Retry, bit 0x40 clear, or fewer bytes than the number's length 110;
 -- 111; 106; 107; reserved bits not zero code 10; no frames code 10; then the frames.
-use Rattle.std.specs.Prelude.{ℕ, Bool, not, ◌&&◌, List, length, ltb, leb}
+use Rattle.std.specs.Prelude.{ℕ, Bool, not, ◌&&◌, List, length, ltb, leb, Option, Some, None, Result, Ok, Err}
 use Rattle.answers.specs.Choice.{◌⇒◌∣◌}
 use Rattle.answers.specs.declared.Answer.{Answer}
 use Rattle.answers.specs.declared.Answer.TheVariants.{Accepted, ProtocolViolation, Closed, NoPacket, DoesNotFit}
@@ -8,8 +8,6 @@ use Rattle.wire.specs.Number.{big_endian}
 use Rattle.kinds.specs.declared.Kind.{Kind}
 use Rattle.kinds.specs.declared.Kind.TheVariants.{OneRtt}
 use Rattle.numbers.specs.Numbers.{bytes_in, recovered_of}
-use Rattle.numbers.specs.declared.Recovered.{Recovered}
-use Rattle.numbers.specs.declared.Recovered.TheVariants as Recovered'
 use Rattle.records.specs.declared.Record.{Record}
 use Rattle.records.specs.Marks.{test_of}
 use Rattle.streams.specs.declared.Conn.{Conn}
@@ -20,8 +18,6 @@ use Rattle.answers.specs.Answers.{accepts}
 use Rattle.headers.specs.First.{header_of, size_in, reserved_of}
 use Rattle.spaces.specs.Spaces.{record_of, records_fit}
 use Rattle.spaces.specs.declared.Records.{Records}
-use Rattle.headers.specs.declared.Header.{Header}
-use Rattle.headers.specs.declared.Header.TheVariants as Header'
 use Rattle.packets.specs.declared.Begun.{Begun}
 
 -- refused, with this connection: there are no frames to walk, as they begin where the bytes end
@@ -41,9 +37,9 @@ tested_of c test kind number first n end =
     ∣ record { answer = Accepted; conn = c; kind = kind; at = n; number = number }
 
 -- goes on with a number, or with the answer that there is none
-abbrev pub with_recovered : {X : Type 0} → Recovered → (Answer → X) → (ℕ → X) → X
-with_recovered (Recovered'.Is n) x k = k n
-with_recovered (Recovered'.Refused answer) x k = x answer
+abbrev pub with_recovered : {X : Type 0} → Result ℕ Answer → (Answer → X) → (ℕ → X) → X
+with_recovered (Ok n) x k = k n
+with_recovered (Err answer) x k = x answer
 
 -- a packet of a kind, whose space has this record
 unfoldable pub in_space_of : Conn → Record → Kind → ℕ → List ℕ → Begun
@@ -53,9 +49,9 @@ in_space_of c R kind first s =
     (λ number. tested_of c (test_of R number) kind number first (bytes_in (size_in first)) (length s))
 
 -- goes on with the kind of a packet, or with x where it is none to take
-abbrev pub with_kind : {X : Type 0} → Header → X → (Kind → X) → X
-with_kind (Header'.Carries kind) x k = k kind
-with_kind Header'.NoPacket x k = x
+abbrev pub with_kind : {X : Type 0} → Option Kind → X → (Kind → X) → X
+with_kind (Some kind) x k = k kind
+with_kind None x k = x
 
 -- fits says whether the connection and its table fit
 unfoldable pub begin_of : Conn → Records → Bool → ℕ → List ℕ → Begun

@@ -1,20 +1,19 @@
 // A packet before its frames: the order of checks up to them.
 ghost use Rattle.std.specs.Prelude.{◌≡◌};
-ghost use Rattle.records.specs.Parts.{joined};
+ghost use Rattle.answers.specs.declared.Answer.TheVariants.{Accepted};
 ghost use Rattle.kinds.specs.Kinds.{space_of};
-ghost use Rattle.spaces.specs.Spaces.{of_parts, record_of};
+ghost use Rattle.spaces.specs.Spaces.{record_of};
 ghost use Rattle.packets.specs.Begin.{refused_of, closes_of, tested_of, in_space_of, begin_of};
 
 use crate::Begun;
 use answers::Answer;
-use headers::Header;
 use kinds::Kind;
-use numbers::Recovered;
+use records::Record;
 use spaces::Records;
 use streams::{Conn, Mark};
-use wire::Number;
 
 // A packet that is refused and changes nothing.
+#[tactic(auto, unfolding(crate::specs::Begin::refused_of))]
 fn refused(c: Conn, answer: Answer, end: usize) -> Begun
     ensures { result ≡ refused_of c answer end }
 {
@@ -28,6 +27,7 @@ fn refused(c: Conn, answer: Answer, end: usize) -> Begun
 }
 
 // A packet that closes the connection with code 10 and no type.
+#[tactic(auto, unfolding(crate::specs::Begin::closes_of))]
 fn closes(c: Conn, end: usize) -> Begun
     ensures { result ≡ closes_of c end }
 {
@@ -41,17 +41,12 @@ fn closes(c: Conn, end: usize) -> Begun
     )
 }
 
-// The number is known and tested: 106 or 107, the reserved bits, no frames.
-fn tested(c: Conn, test: Answer, kind: Kind, number: u64, first: u8, n: usize, end: usize) -> Begun
-    ensures { result ≡ tested_of c test kind number first n end }
+// The number is known and passed its test: the reserved bits, no frames.
+#[tactic(auto, unfolding(crate::specs::Begin::tested_of))]
+fn tested(c: Conn, kind: Kind, number: u64, first: u8, n: usize, end: usize) -> Begun
+    ensures { result ≡ tested_of c Accepted kind number first n end }
 {
-    let Answer::Accepted = test else {
-        return refused(c, test, end);
-    };
-    if headers::reserved(first) {
-        return closes(c, end);
-    }
-    if end <= n {
+    if headers::reserved(first) || end <= n {
         return closes(c, end);
     }
     Begun {
@@ -63,84 +58,52 @@ fn tested(c: Conn, test: Answer, kind: Kind, number: u64, first: u8, n: usize, e
     }
 }
 
-// A packet of the space whose record is lent: too few bytes, 111, and then as above.
-fn in_space(c: Conn, words: &[u64; 128], top: u64, kind: Kind, first: u8, s: &[u8]) -> Begun
-    ensures { result ≡ in_space_of c (joined words.now top) kind first s.now }
+// A packet of the space whose record is lent: too few bytes, 111, 106 or 107, and then as above.
+#[tactic(auto, unfolding(crate::specs::Begin::in_space_of, crate::specs::Begin::tested_of, wire::specs::Number::field_at))]
+fn in_space(c: Conn, seen: &Record, kind: Kind, first: u8, s: &[u8]) -> Begun
+    ensures { result ≡ in_space_of c seen.now kind first s.now }
 {
     let size = headers::size(first);
-    let Number::Is { value, next } = headers::truncated(s, size) else {
+    let Some((value, next)) = headers::truncated(s, size) else {
         return refused(c, Answer::NoPacket, s.len());
     };
-    match numbers::recover(top, size, value) {
-        Recovered::Refused { answer } => refused(c, answer, s.len()),
-        Recovered::Is { number } => tested(
-            c,
-            records::test_of(words, top, number),
-            kind,
-            number,
-            first,
-            next,
-            s.len(),
-        ),
+    let number = match numbers::recover(seen.top, size, value) {
+        Ok(number) => number,
+        Err(answer) => return refused(c, answer, s.len()),
+    };
+    if let Err(answer) = records::test_of(seen, number) {
+        return refused(c, answer, s.len());
     }
+    tested(c, kind, number, first, next, s.len())
 }
 
 // A packet of a kind, with the record of its space; 0-RTT and 1-RTT share one.
-fn by_kind<'a>(
-    c: Conn,
-    initial: &'a [u64; 128],
-    initial_top: u64,
-    handshake: &'a [u64; 128],
-    handshake_top: u64,
-    application: &'a [u64; 128],
-    application_top: u64,
-    kind: Kind,
-    first: u8,
-    s: &[u8],
-) -> Begun
-    ensures { result ≡ in_space_of c (record_of (of_parts initial.now initial_top handshake.now handshake_top application.now application_top) (space_of kind)) kind first s.now }
+fn by_kind(c: Conn, records: &Records, kind: Kind, first: u8, s: &[u8]) -> Begun
+    ensures { result ≡ in_space_of c (record_of records.now (space_of kind)) kind first s.now }
 {
     match kind {
-        Kind::Initial => in_space(c, initial, initial_top, kind, first, s),
-        Kind::Handshake => in_space(c, handshake, handshake_top, kind, first, s),
-        _ => in_space(c, application, application_top, kind, first, s),
+        Kind::Initial => in_space(c, &records.initial, kind, first, s),
+        Kind::Handshake => in_space(c, &records.handshake, kind, first, s),
+        Kind::ZeroRtt | Kind::OneRtt => in_space(c, &records.application, kind, first, s),
     }
 }
 
 // A packet up to its frames; `fits` says whether the table fits.
+#[tactic(auto, unfolding(crate::specs::Begin::begin_of))]
 pub fn begin(c: Conn, records: Records, fits: bool, first: u8, s: &[u8]) -> Begun
     ensures { result ≡ begin_of c records fits first s.now }
 {
     if !fits {
         return refused(c, Answer::DoesNotFit, s.len());
     }
-    if !spaces::fit(
-        &records.initial.words,
-        records.initial.top,
-        &records.handshake.words,
-        records.handshake.top,
-        &records.application.words,
-        records.application.top,
-    ) {
+    if !spaces::fit(&records) {
         return refused(c, Answer::DoesNotFit, s.len());
     }
-    let mark = c.mark;
-    if !mark.is_open() {
+    if !c.mark.is_open() {
         return refused(c, Answer::Closed, s.len());
     }
-    let Header::Carries { kind } = headers::of_first(first) else {
+    let Some(kind) = headers::of_first(first) else {
         return refused(c, Answer::NoPacket, s.len());
     };
-    by_kind(
-        c,
-        &records.initial.words,
-        records.initial.top,
-        &records.handshake.words,
-        records.handshake.top,
-        &records.application.words,
-        records.application.top,
-        kind,
-        first,
-        s,
-    )
+    by_kind(c, &records, kind, first, s)
 }

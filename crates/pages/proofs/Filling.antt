@@ -8,11 +8,13 @@ use native.Mathlib.Omega.{arith}
 use borrow.Author.Tests.{le-leb, lt-leb}
 use lib.ListN.{length}
 use Rattle.wire.specs.Writing.{Bytes, writes}
-use Rattle.wire.specs.declared.Wrote.{Wrote}
-use Rattle.owned.specs.declared.OwnedFrame.{OwnedFrame}
+use Rattle.owned.specs.declared.Owned.{Owned}
+use Rattle.steps.specs.declared.TookFrame.{TookFrame}
 use Rattle.report.specs.Listing.{taken_row_of}
 use Rattle.pages.specs.Pages.{taken_from, with_row, one_more_of, page_from}
 use Rattle.pages.specs.declared.Page.{Page}
+use Rattle.std.specs.Prelude.{Result}
+use Rattle.answers.specs.declared.Answer.{Answer}
 
 module _ (p : Page) (s out : List ℕ) where
   pub stops_full : (k : ℕ) → p.full ≡ true → page_from k p s out ≡ (p, out)
@@ -36,9 +38,9 @@ module _ (p : Page) (s out : List ℕ) where
   goes_on (suc k) h f l e = let z : suc k - 1 ≡ k = omega arith in rw (← e, z, f, lt-leb (length s) p.at l) refl
 
   -- a row more, from what taking the frame and writing its row answered
-  pub by_row : (taken : OwnedFrame) → taken ≡ taken_from p s → {w : Wrote} {after : List ℕ} → (w, after) ≡ writes (Bytes (taken_row_of p.at taken.took)) out p.used
+  pub by_row : (taken : Owned TookFrame) → taken ≡ taken_from p s → {w : Result ℕ Answer} {after : List ℕ} → (w, after) ≡ writes (Bytes (taken_row_of p.at taken.told)) out p.used
       → {q : Page} → with_row p s taken w ≡ q → (q, after) ≡ one_more_of p s out
   unfolding one_more_of
   by_row taken e g f =
-      rw (← f) (ap (λ (o : Wrote × List ℕ). (with_row p s taken o.0, o.1)) g
-      ∙ ap (λ (h : OwnedFrame). let w = writes (Bytes (taken_row_of p.at h.took)) out p.used in (with_row p s h w.0, w.1)) e)
+      rw (← f) (ap (λ (o : Result ℕ Answer × List ℕ). (with_row p s taken o.0, o.1)) g
+      ∙ ap (λ (h : Owned TookFrame). let w = writes (Bytes (taken_row_of p.at h.told)) out p.used in (with_row p s h w.0, w.1)) e)

@@ -6,10 +6,10 @@ ghost use Rattle.pages.specs.Pages.{small_of, one_more_of, page_of};
 
 use entries::Entry;
 use kinds::{Kind, Role};
-use owned::OwnedOpened;
+use opening::Opened;
+use owned::Owned;
 use report::taken;
 use streams::{Conn, Limits};
-use wire::Wrote;
 
 // How far a listing is: the connection and its table, the place of the next frame, how much of the output is used, and
 // whether the next row waits for room.
@@ -23,7 +23,7 @@ pub struct Page {
 }
 
 // The small connection, opened: the listing is a server's.
-pub fn small() -> OwnedOpened
+pub fn small() -> Owned<Opened>
     ensures { result ≡ small_of }
 {
     let limits = Limits {
@@ -38,26 +38,15 @@ pub fn small() -> OwnedOpened
 fn one_more(p: Page, s: &[u8], out: &mut [u8]) -> Page
     ensures { (result, out.new) ≡ one_more_of p s.now out.old }
 {
-    let conn = p.conn;
-    let table = p.table;
-    let after = owned::take_frame(conn, table, s, p.at, Kind::OneRtt);
-    let took = after.took;
-    let Wrote::To { next } = taken::taken_row(out, p.used, p.at, took) else {
-        return Page {
-            conn,
-            table,
-            at: p.at,
-            used: p.used,
-            full: true,
-        };
+    let Owned { told: took, table } = owned::take_frame(p.conn, p.table, s, p.at, Kind::OneRtt);
+    let Ok(used) = taken::taken_row(out, p.used, p.at, took) else {
+        return Page { full: true, ..p };
     };
-    let left = took.conn;
-    let entries = after.table;
     Page {
-        conn: left,
-        table: entries,
+        conn: took.conn,
+        table,
         at: taken::after(took, s.len()),
-        used: next,
+        used,
         full: false,
     }
 }
@@ -66,20 +55,16 @@ fn one_more(p: Page, s: &[u8], out: &mut [u8]) -> Page
 pub fn fill(p: Page, s: &[u8], out: &mut [u8]) -> Page
     ensures { (result, out.new) ≡ page_of p s.now out.old }
 {
-    let mut now = p;
-    now.used = 0;
-    now.full = false;
-    let mut left = s.len();
-    while 0 < left {
-        if now.full {
+    let mut now = Page {
+        used: 0,
+        full: false,
+        ..p
+    };
+    for _ in 0..s.len() {
+        if now.full || s.len() <= now.at {
             return now;
         }
-        if s.len() <= now.at {
-            return now;
-        }
-        let next = one_more(now, s, out);
-        now = next;
-        left -= 1;
+        now = one_more(now, s, out);
     }
     now
 }

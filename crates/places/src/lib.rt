@@ -4,26 +4,11 @@
 
 ghost use Rattle.std.specs.Prelude.{◌≡◌, ◌+◌, ◌-◌, ◌≤◌, ◌<◌, ◌^◌, length, eqb};
 ghost use Rattle.answers.specs.Choice.{◌⇒◌∣◌};
-ghost use Rattle.ring.specs.Parts.{Without};
 ghost use Rattle.places.specs.Places.{marked, run_of, up_of, painted_of};
 ghost use Rattle.places.specs.Parts.{Painted, Alike, Whole, Marked};
 
 // The highest place that marks are painted up to: 2^63-1.
 const MOST: u64 = 9223372036854775807;
-
-// The word w without the bits from lo up to hi.
-fn without(w: u64, lo: u64, hi: u64) -> u64
-    requires { (lo < hi) × (hi ≤ 64) }
-    ensures { Without w lo hi result }
-{
-    let low = w % (1u64 << lo);
-    // no shift may go by all 64 bits of a word
-    if hi == 64 {
-        low
-    } else {
-        ((w >> hi) << hi) + low
-    }
-}
 
 // The word w with the bits from lo up to hi all set, or all clear.
 fn painted(w: u64, lo: u64, hi: u64, ones: bool) -> u64
@@ -31,9 +16,9 @@ fn painted(w: u64, lo: u64, hi: u64, ones: bool) -> u64
     ensures { Painted w lo hi ones result }
 {
     if ones {
-        !without(!w, lo, hi)
+        !ring::without(!w, lo, hi)
     } else {
-        without(w, lo, hi)
+        ring::without(w, lo, hi)
     }
 }
 
@@ -42,11 +27,8 @@ fn alike(w: u64, b: u64, ones: bool) -> u64
     requires { b < 64 }
     ensures { Alike w b ones result }
 {
-    if ones {
-        u64::trailing_zeros(!(w >> b)) as u64
-    } else {
-        u64::trailing_zeros(!(!w >> b)) as u64
-    }
+    let like = if ones { w } else { !w };
+    u64::from((!(like >> b)).trailing_zeros())
 }
 
 // The place up to which, from `at`, all marks are like `ones`, but not above `to`; `at` where the words are not 64.
@@ -64,7 +46,7 @@ pub fn up(marks: &[u64], at: u64, to: u64, ones: bool) -> u64
         if to - p <= n {
             return to;
         }
-        p = p + n;
+        p += n;
         if n < 64 - b {
             return p;
         }
@@ -88,13 +70,10 @@ fn mark(marks: &mut [u64], from: u64, to: u64, ones: bool)
     let mut at = from;
     while at < to {
         let lo = at % 64;
-        let mut hi = 64;
-        if to - at < 64 - lo {
-            hi = lo + (to - at);
-        }
+        let hi = (lo + (to - at)).min(64);
         let k = (at / 64 % 64) as usize;
         marks[k] = painted(marks[k], lo, hi, ones);
-        at = at + (hi - lo);
+        at += hi - lo;
     }
 }
 

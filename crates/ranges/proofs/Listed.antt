@@ -12,16 +12,13 @@ use lib.ListN.{length}
 use Rattle.answers.proofs.Choice.{below_or_not}
 use Rattle.answers.proofs.Distinct.{impossible}
 use Rattle.wire.specs.Number.{number_at, with_number}
-use Rattle.wire.specs.declared.Number.{Number}
-use Rattle.wire.specs.declared.Number.TheVariants.{Is, CutShort}
 use Rattle.ranges.specs.Ranges.{range_at, ranges_at, with_ranges}
 use Rattle.ranges.specs.Listed.{listed, fits}
-use Rattle.ranges.specs.declared.Ranges.{Ranges}
-use Rattle.ranges.specs.declared.Ranges.TheVariants.{To, Broken}
 use Rattle.ranges.proofs.Steps.{below_wrong, below_spans}
+use Rattle.std.specs.Prelude.{Option, Some, None}
 
 -- one number more
-pub listed_step : (s : List ℕ) (at n : ℕ) {v next : ℕ} → number_at s at ≡ Is v next → listed s at (n + 1) ≡ v ∷ listed s next n
+pub listed_step : (s : List ℕ) (at n : ℕ) {v next : ℕ} → number_at s at ≡ Some (v, next) → listed s at (n + 1) ≡ v ∷ listed s next n
 unfolding listed
 listed_step s at n e = rw (add-one, e)
 
@@ -35,7 +32,7 @@ module _ (s : List ℕ) (k at low : ℕ) (below : (next least : ℕ) → fits le
   abbrev Same : Type 0
   Same = fits low (suc k) (listed s at (2 * suc k)) ≡ with_ranges (ranges_at s (suc k) at low) false (λ n. true)
 
-  both : (gap p len next : ℕ) → number_at s at ≡ Is gap p → number_at s p ≡ Is len next → Same
+  both : (gap p len next : ℕ) → number_at s at ≡ Some (gap, p) → number_at s p ≡ Some (len, next) → Same
   unfolding fits ranges_at range_at
   both gap p len next e f =
       below_or_not low (gap + 2 + len)
@@ -43,15 +40,15 @@ module _ (s : List ℕ) (k at low : ℕ) (below : (next least : ℕ) → fits le
       (λ h. rw (listed_range_step s at k, e, f, below_spans low gap len next h, le-leb (gap + 2 + len) low h)
       (let d : low - (gap + 2 + len) ≡ low - gap - 2 - len = omega arith in rw d (below next (low - gap - 2 - len))))
 
-  one : (gap p : ℕ) → number_at s at ≡ Is gap p → (y : Number) → number_at s p ≡ y → Same
+  one : (gap p : ℕ) → number_at s at ≡ Some (gap, p) → (y : Option (ℕ × ℕ)) → number_at s p ≡ y → Same
   unfolding fits ranges_at range_at
-  one gap p e (Is len next) f = both gap p len next e f
-  one gap p e CutShort f = rw (listed_range_step s at k, e, f)
+  one gap p e (Some (len, next)) f = both gap p len next e f
+  one gap p e None f = rw (listed_range_step s at k, e, f)
 
-  turn : (x : Number) → number_at s at ≡ x → Same
+  turn : (x : Option (ℕ × ℕ)) → number_at s at ≡ x → Same
   unfolding fits ranges_at range_at
-  turn (Is gap p) e = one gap p e (number_at s p) refl
-  turn CutShort e = rw (listed_range_step s at k, e)
+  turn (Some (gap, p)) e = one gap p e (number_at s p) refl
+  turn None e = rw (listed_range_step s at k, e)
 
 -- whether the numbers fit is whether the ranges are read
 fits_ranges : (s : List ℕ) (k at low : ℕ) → fits low k (listed s at (2 * k)) ≡ with_ranges (ranges_at s k at low) false (λ n. true)
@@ -59,18 +56,18 @@ unfolding fits listed ranges_at
 fits_ranges s zero at low = refl
 fits_ranges s (suc k) at low = turn s k at low (fits_ranges s k) (number_at s at) refl
 
-pub read_fits : (s : List ℕ) (k at low : ℕ) {n : ℕ} → ranges_at s k at low ≡ To n → fits low k (listed s at (2 * k)) ≡ true
+pub read_fits : (s : List ℕ) (k at low : ℕ) {n : ℕ} → ranges_at s k at low ≡ Some n → fits low k (listed s at (2 * k)) ≡ true
 read_fits s k at low e = rw (fits_ranges s k at low, e)
 
-pub broken_unfit : (s : List ℕ) (k at low : ℕ) → ranges_at s k at low ≡ Broken → fits low k (listed s at (2 * k)) ≡ false
+pub broken_unfit : (s : List ℕ) (k at low : ℕ) → ranges_at s k at low ≡ None → fits low k (listed s at (2 * k)) ≡ false
 broken_unfit s k at low e = rw (fits_ranges s k at low, e)
 
-pub fits_read : (s : List ℕ) (k at low : ℕ) → fits low k (listed s at (2 * k)) ≡ true → (n : ℕ) × (ranges_at s k at low ≡ To n)
+pub fits_read : (s : List ℕ) (k at low : ℕ) → fits low k (listed s at (2 * k)) ≡ true → (n : ℕ) × (ranges_at s k at low ≡ Some n)
 fits_read s k at low = rw (fits_ranges s k at low) (go (ranges_at s k at low))
   where
-    go : (r : Ranges) → with_ranges r false (λ n. true) ≡ true → (n : ℕ) × (r ≡ To n)
-    go (To n) e = (n, refl)
-    go Broken e = impossible cc
+    go : (r : Option ℕ) → with_ranges r false (λ n. true) ≡ true → (n : ℕ) × (r ≡ Some n)
+    go (Some n) e = (n, refl)
+    go None e = impossible cc
 
 -- numbers that fit are two for each range
 pub fits_length : (low k : ℕ) (l : List ℕ) → fits low k l ≡ true → length l ≡ 2 * k

@@ -10,46 +10,42 @@ use lib.ListN.{length}
 use Rattle.answers.proofs.Choice.{holds}
 use Rattle.answers.proofs.Distinct.{impossible}
 use Rattle.wire.specs.Number.{number_at}
-use Rattle.wire.specs.declared.Number.TheVariants.{Is}
 use Rattle.wire.proofs.Sound as number
 use Rattle.ranges.specs.Ranges.{below_of, range_at, ranges_at, with_range, with_ranges}
 use Rattle.ranges.specs.Walk.{step_of, Readable, Stepped}
 use Rattle.ranges.specs.declared.Range.{Range}
-use Rattle.ranges.specs.declared.Range.TheVariants.{Wrong}
-use Rattle.ranges.specs.declared.Ranges.{Ranges}
-use Rattle.ranges.specs.declared.Ranges.TheVariants.{To, Broken}
 use Rattle.ranges.specs.declared.Walk.{Walk}
-use Rattle.ranges.specs.declared.Step.TheVariants.{End}
 use Rattle.ranges.proofs.Steps.{below_spans, ranges_none}
+use Rattle.std.specs.Prelude.{Option, Some, None}
 
 -- the first of 1 + k ranges that were read up to n: its two numbers stand at the place, it fits below low, and the others were read below it
 pub record Taken (s : List ℕ) (k at low n gap p len next : ℕ) : Type 0 where
-  pub gap_read : number_at s at ≡ Is gap p
-  pub len_read : number_at s p ≡ Is len next
+  pub gap_read : number_at s at ≡ Some (gap, p)
+  pub len_read : number_at s p ≡ Some (len, next)
   pub fits : gap + 2 + len ≤ low
-  pub rest : ranges_at s k next (low - gap - 2 - len) ≡ To n
+  pub rest : ranges_at s k next (low - gap - 2 - len) ≡ Some n
 
 module _ (s : List ℕ) (k at low n : ℕ) where
-  abbrev IfRead : Range → Type 0
-  IfRead r = with_range r Broken (λ high least next. ranges_at s k next least) ≡ To n → (gap : ℕ) × (p : ℕ) × (len : ℕ) × (next : ℕ) × Taken s k at low n gap p len next
+  abbrev IfRead : Option Range → Type 0
+  IfRead r = with_range r None (λ high least next. ranges_at s k next least) ≡ Some n → (gap : ℕ) × (p : ℕ) × (len : ℕ) × (next : ℕ) × Taken s k at low n gap p len next
 
-  none : IfRead Wrong
+  none : IfRead None
   none e = impossible cc
 
   all_taken : IfRead (range_at s at low)
   unfolding range_at below_of
   all_taken =
-      number.with_number_law IfRead (number_at s at) Wrong _ none (λ gap p e.
-      number.with_number_law IfRead (number_at s p) Wrong _ none (λ len next f.
-      holds IfRead (ltb low (gap + 2 + len)) Wrong _ (λ t. none)
+      number.with_number_law IfRead (number_at s at) None _ none (λ gap p e.
+      number.with_number_law IfRead (number_at s p) None _ none (λ len next f.
+      holds IfRead (ltb low (gap + 2 + len)) None _ (λ t. none)
       (λ t r. (gap, p, len, next, record { gap_read = e; len_read = f; fits = ltb-false _ _ t; rest = r }))))
 
-pub taken : (s : List ℕ) (k at low : ℕ) {n : ℕ} → ranges_at s (suc k) at low ≡ To n → (gap : ℕ) × (p : ℕ) × (len : ℕ) × (next : ℕ) × Taken s k at low n gap p len next
+pub taken : (s : List ℕ) (k at low : ℕ) {n : ℕ} → ranges_at s (suc k) at low ≡ Some n → (gap : ℕ) × (p : ℕ) × (len : ℕ) × (next : ℕ) × Taken s k at low n gap p len next
 unfolding ranges_at
 taken s k at low {n} = all_taken s k at low n
 
 -- ranges that were read end at or after their place and within the bytes
-pub sound : (s : List ℕ) (k at low : ℕ) {n : ℕ} → ranges_at s k at low ≡ To n → at ≤ length s → (at ≤ n) × (n ≤ length s)
+pub sound : (s : List ℕ) (k at low : ℕ) {n : ℕ} → ranges_at s k at low ≡ Some n → at ≤ length s → (at ≤ n) × (n ≤ length s)
 unfolding ranges_at
 sound s zero at low {n} e h = let q : at ≡ n = cc in (omega arith, omega arith)
 sound s (suc k) at low {n} e h =
@@ -61,16 +57,16 @@ sound s (suc k) at low {n} e h =
     (omega (arith, i.0, a.above, b.above), i.1)
 
 -- what holds where a range is wrong and wherever all were read holds of what goes on with them
-pub with_ranges_law : {X : Type 0} (P : X → Type 0) (r : Ranges) (x : X) (k : ℕ → X) → P x → ((n : ℕ) → r ≡ To n → P (k n)) → P (with_ranges r x k)
-with_ranges_law P (To n) x k p q = q n refl
-with_ranges_law P Broken x k p q = p
+pub with_ranges_law : {X : Type 0} (P : X → Type 0) (r : Option ℕ) (x : X) (k : ℕ → X) → P x → ((n : ℕ) → r ≡ Some n → P (k n)) → P (with_ranges r x k)
+with_ranges_law P (Some n) x k p q = q n refl
+with_ranges_law P None x k p q = p
 
 -- while a range is left, the step finds it
 pub walks : (s : List ℕ) (w : Walk) (n : ℕ) → Readable s w n → 0 < w.left → (high : ℕ) × (low : ℕ) × (rest : Walk) × Stepped s w n high low rest
 unfolding step_of range_at
 walks s w n e h =
     let more : w.left ≡ suc (w.left - 1) = omega arith in
-    let t = taken s (w.left - 1) w.at w.low (subst (λ (k : ℕ). ranges_at s k w.at w.low ≡ To n) more e) in
+    let t = taken s (w.left - 1) w.at w.low (subst (λ (k : ℕ). ranges_at s k w.at w.low ≡ Some n) more e) in
     let gap = t.0 in
     let len = t.2 in
     let next = t.3 in
@@ -90,8 +86,8 @@ walks s w n e h =
     )
 
 -- when none is left, the walk ends where the ranges end
-pub ends : (s : List ℕ) (w : Walk) (n : ℕ) → Readable s w n → w.left ≡ 0 → (step_of s w ≡ End) × (w.at ≡ n)
+pub ends : (s : List ℕ) (w : Walk) (n : ℕ) → Readable s w n → w.left ≡ 0 → (step_of s w ≡ None) × (w.at ≡ n)
 unfolding step_of
 ends s w n e h =
-    let q : To w.at ≡ To n = sym (ranges_none s w.left w.at w.low h) ∙ e in
+    let q : Some w.at ≡ Some n = sym (ranges_none s w.left w.at w.low h) ∙ e in
     (simp (eq-eqb _ _ h), cc)

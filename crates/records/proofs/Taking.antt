@@ -5,7 +5,7 @@ use mathlib.Core.Path.{◌≡◌, refl, sym, ap}
 use mathlib.Core.Bool.{Bool, true, false, not, ◌&&◌, ◌||◌}
 use native.Mathlib.Omega.{arith}
 use lib.Dec.{ltb, leb, eqb}
-use borrow.Author.Tests.{lt-ltb, le-ltb, ltb-false, not-false}
+use borrow.Author.Tests.{le-ltb, ltb-false, not-false}
 use Rattle.answers.specs.Choice.{◌⇒◌∣◌}
 use Rattle.answers.proofs.Choice.{holds}
 use Rattle.answers.specs.Answers.{number_of}
@@ -28,25 +28,13 @@ module _ (R : Record) where
   unfolding check_of
   can_be = holds (λ (a : Answer). a ≡ Accepted → sound_of R ≡ true) (sound_of R) Accepted DoesNotFit (λ e f. e) (λ e. never DoesNotFit (omega arith))
 
-  pub cannot_be : (check_of R ≡ Accepted → ⊥) → sound_of R ≡ false
-  unfolding check_of
-  cannot_be = holds (λ (a : Answer). (a ≡ Accepted → ⊥) → sound_of R ≡ false) (sound_of R) Accepted DoesNotFit (λ e f. absurd (f refl)) (λ e f. e)
-
   -- a number that is accepted is not below the record
   pub within : (n : ℕ) → test_of R n ≡ Accepted → R.top ≤ n + 8192
   unfolding test_of
   within n = holds (λ (a : Answer). a ≡ Accepted → R.top ≤ n + 8192) (ltb (n + 8192) R.top) _ _ (λ e. never BelowRecord (omega arith)) (λ e f. ltb-false _ _ e)
 
-  -- the way of each answer
+  -- the way of an acceptance, and what its answer says
   module _ (n : ℕ) where
-    pub take_unfit : (check_of R ≡ Accepted → ⊥) → left R DoesNotFit ≡ taken_of R n
-    unfolding taken_of
-    take_unfit f = simp (cannot_be f)
-
-    pub take_large : check_of R ≡ Accepted → 2 ^ 62 - 1 < n → left R NoSuchNumber ≡ taken_of R n
-    unfolding taken_of
-    take_large e h = simp (can_be e, lt-ltb (2 ^ 62 - 1) n h)
-
     pub take_new : check_of R ≡ Accepted → n ≤ 2 ^ 62 - 1 → test_of R n ≡ Accepted → record { answer = Accepted; «record» = with_mark R n } ≡ taken_of R n
     unfolding taken_of test_of
     take_new e h f = simp (can_be e, le-ltb (2 ^ 62 - 1) n h) (go (ltb (n + 8192) R.top) (recorded R n) f)
@@ -56,15 +44,6 @@ module _ (R : Record) where
         go true b f = never BelowRecord (omega arith) f
         go false true f = never InRecord (omega arith) f
         go false false f = refl
-
-    pub take_answer : check_of R ≡ Accepted → n ≤ 2 ^ 62 - 1 → test_of R n ≡ (taken_of R n).answer
-    unfolding taken_of test_of
-    take_answer e h = simp (can_be e, le-ltb (2 ^ 62 - 1) n h) (go (ltb (n + 8192) R.top) (recorded R n))
-      where
-        go : (a b : Bool) → (a ⇒ BelowRecord ∣ b ⇒ InRecord ∣ Accepted) ≡ (a ⇒ left R BelowRecord ∣ b ⇒ left R InRecord ∣ record { answer = Accepted; «record» = with_mark R n }).answer
-        go true b = refl
-        go false true = refl
-        go false false = refl
 
     -- the laws of an answer: an acceptance by what it rests on, and a refusal leaves the record as it was
     pub accepts : (taken_of R n).answer ≡ Accepted → Accepts R n (taken_of R n).«record»

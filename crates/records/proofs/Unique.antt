@@ -1,4 +1,4 @@
--- The contracts of `new`, `check`, `test`, `take`, `next_run`, `check_of`, `test_of` and `take_of` are firm: each is an equation of the answer, `take`'s of the record too, and `take_of`'s of the top and the lent words.
+-- The contracts of `new`, `check`, `test`, `take`, `next_run`, `check_of`, `test_of` and `take_of` are firm: each is an equation of the answer, `take`'s of the record too, and `take_of`'s of the lent one.
 -- Assumes nothing.
 use mathlib.Core.Path.{refl, sym, ◌∙◌}
 use Rattle.answers.specs.Firm.{Firm}
@@ -44,5 +44,5 @@ test_of_firm = equation refl
 pub take_of_firm : Firm 1 take_of.ps take_of.r taking_of.Asked taking_of.Post
 take_of_firm = record {
   asks_nothing = λ κs a. tt;
-  one_outcome = λ κs a x y ws vs p q. λ i. let e = (p ∙ sym q) i in (record { answer = e.answer; top = e.«record».top }, (e.«record».words, (tt, (tt, tt))));
+  one_outcome = λ κs a x y ws vs p q. λ i. let e = (p ∙ sym q) i in (e.0, (e.1, (tt, tt)));
 }

@@ -4,10 +4,6 @@ use Rattle.records.specs.declared.Record.{Record}
 use Rattle.ring.specs.Bits.{bit_at}
 use Rattle.records.specs.Marks.{recorded, Sound}
 
--- the record with these words and this top, which the code is lent apart
-abbrev pub joined : List ℕ → ℕ → Record
-joined ws T = record { words = ws; top = T }
-
 -- a ring of 128 words of 64 bits, which a lent one is to stay
 pub record Whole (ws : List ℕ) : Type 0 where
   pub long : length ws ≡ 128

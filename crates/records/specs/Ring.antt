@@ -1,11 +1,11 @@
 -- The one record that marks a set of numbers, and what is answered to a number that comes, with the record after it.
-use Rattle.std.specs.Prelude.{ℕ, zero, suc, ◌+◌, ◌-◌, ◌*◌, ◌/◌, ◌^◌, ◌<◌, max, ◌≡◌, Bool, not, ◌&&◌, ◌||◌, List, [], ◌∷◌, ltb, eqb}
+use Rattle.std.specs.Prelude.{ℕ, zero, suc, ◌+◌, ◌-◌, ◌*◌, ◌/◌, ◌^◌, ◌<◌, max, ◌≡◌, Bool, not, ◌&&◌, ◌||◌, List, [], ◌∷◌, ltb, eqb, Result}
 use Rattle.answers.specs.Choice.{◌⇒◌∣◌}
+use Rattle.answers.specs.Outcome.{outcome_of}
 use Rattle.answers.specs.declared.Answer.{Answer}
 use Rattle.answers.specs.declared.Answer.TheVariants.{Accepted, BelowRecord, InRecord, NoSuchNumber, DoesNotFit}
 use Rattle.records.specs.declared.Record.{Record}
 use Rattle.records.specs.declared.Taken.{Taken}
-use Rattle.records.specs.declared.Topped.{Topped}
 use Rattle.ring.specs.Bits.{as_bit}
 use Rattle.records.specs.Marks.{recorded, test_of, sound_of, Sound}
 
@@ -44,9 +44,9 @@ taken_of R n =
     ∣ recorded R n ⇒ left R InRecord
     ∣ record { answer = Accepted; «record» = with_mark R n }
 
--- the answer and the record after it, where the words were lent and only their top is told
-abbrev pub taken_in : Topped → List ℕ → Taken
-taken_in t ws = record { answer = t.answer; «record» = record { words = ws; top = t.top } }
+-- whether it was recorded, and the record after it, where the record was lent
+abbrev pub taken_as : Taken → Result Unit Answer × Record
+taken_as t = (outcome_of t.answer, t.«record»)
 
 -- what holds of an acceptance that leaves the record S
 pub record Accepts (R : Record) (n : ℕ) (S : Record) : Type 0 where

@@ -2,16 +2,17 @@
 #![tactic(auto)]
 
 ghost use Rattle.std.specs.Prelude.{◌≡◌, ◌+◌, ◌≤◌, ◌<◌, ◌^◌};
-ghost use Rattle.ring.specs.Parts.{Without, Put};
+ghost use Rattle.answers.specs.Outcome.{outcome_of};
+ghost use Rattle.ring.specs.Parts.{Put};
 ghost use Rattle.records.specs.Marks.{none_of, check_of, test_of};
-ghost use Rattle.records.specs.Ring.{taken_of, taken_in};
+ghost use Rattle.records.specs.Ring.{taken_of, taken_as};
 ghost use Rattle.records.specs.Found.{found_of};
-ghost use Rattle.records.specs.Parts.{joined, Whole, Cleared, Slid, Marked};
+ghost use Rattle.records.specs.Parts.{Whole, Cleared, Slid, Marked};
 
 use answers::Answer;
 use ring::Run;
 
-// A record is a value, handed in and handed back. The number n has the bit n % 64 of the word n / 64 % 128.
+// A record is a value, handed in and handed back, or lent. The number n has the bit n % 64 of the word n / 64 % 128.
 #[derive(Clone, Copy)]
 pub struct Record {
     pub words: [u64; 128],
@@ -26,36 +27,8 @@ pub struct Taken {
     pub record: Record,
 }
 
-// The same where the words are lent: the answer, and the top after it.
-#[derive(Drop)]
-pub struct Topped {
-    pub answer: Answer,
-    pub top: u64,
-}
-
-// The next run of a record downwards, or 120.
-#[derive(Drop)]
-pub enum Found {
-    Is { run: Run },
-    Refused { answer: Answer },
-}
-
 // The largest packet number: 2^62-1.
 const MOST: u64 = 4611686018427387903;
-
-// The word w without the bits from lo up to hi.
-fn without(w: u64, lo: u64, hi: u64) -> u64
-    requires { (lo < hi) × (hi ≤ 64) }
-    ensures { Without w lo hi result }
-{
-    let low = w % (1u64 << lo);
-    // no shift may go by all 64 bits of a word
-    if hi == 64 {
-        low
-    } else {
-        ((w >> hi) << hi) + low
-    }
-}
 
 // The word w with the bit b.
 fn put(w: u64, b: u64) -> u64
@@ -65,41 +38,43 @@ fn put(w: u64, b: u64) -> u64
     w | (1u64 << b)
 }
 
-// 120 for a record that does not fit. Public as a part of taking a packet: `spaces::fit` asks it of the words of three records that are lent, so that none is copied.
-pub fn check_of(words: &[u64; 128], top: u64) -> Answer
-    ensures { result ≡ check_of (joined words.now top) }
+// 120 for a record that does not fit. Public as a part of taking a packet: `spaces::fit` asks it of three records that are lent, so that none is copied.
+#[tactic(auto, unfolding(crate::specs::Marks::check_of, crate::specs::Marks::sound_of, crate::specs::Marks::recorded))]
+pub fn check_of(seen: &Record) -> Result<(), Answer>
+    ensures { result ≡ outcome_of (check_of seen.now) }
 {
-    if 0 < top {
-        let largest = top - 1;
+    if 0 < seen.top {
+        let largest = seen.top - 1;
         if MOST < largest {
-            return Answer::DoesNotFit;
+            return Err(Answer::DoesNotFit);
         }
-        if ring::bit_at(words, largest) == 0 {
-            return Answer::DoesNotFit;
+        if ring::bit_at(&seen.words, largest) == 0 {
+            return Err(Answer::DoesNotFit);
         }
     }
-    if ring::is_clean(words, top) {
-        return Answer::Accepted;
+    if ring::is_clean(&seen.words, seen.top) {
+        return Ok(());
     }
-    Answer::DoesNotFit
+    Err(Answer::DoesNotFit)
 }
 
 // 106 for a number below the record, 107 for one in it already. Public as a part of taking a packet: `packets::checks::begin` has asked
 // `spaces::fit` for 120 before, and `numbers::recover` for 111; a host's call by itself is `Record::test`.
-pub fn test_of(words: &[u64; 128], top: u64, n: u64) -> Answer
-    ensures { result ≡ test_of (joined words.now top) n }
+#[tactic(auto, unfolding(crate::specs::Marks::test_of, crate::specs::Marks::recorded))]
+pub fn test_of(seen: &Record, n: u64) -> Result<(), Answer>
+    ensures { result ≡ outcome_of (test_of seen.now n) }
 {
     // above the largest every number is fresh, and its slot is still another's
-    if top <= n {
-        return Answer::Accepted;
+    if seen.top <= n {
+        return Ok(());
     }
-    if 8192 < top - n {
-        return Answer::BelowRecord;
+    if 8192 < seen.top - n {
+        return Err(Answer::BelowRecord);
     }
-    if ring::bit_at(words, n) == 1 {
-        return Answer::InRecord;
+    if ring::bit_at(&seen.words, n) == 1 {
+        return Err(Answer::InRecord);
     }
-    Answer::Accepted
+    Ok(())
 }
 
 // Clears the bits of the numbers from `from` up to `to`, a part of a word at a time.
@@ -111,93 +86,71 @@ fn clear(words: &mut [u64; 128], from: u64, to: u64)
     let mut at = from;
     while at < to {
         let lo = at % 64;
-        let mut hi = 64;
-        if to - at < 64 - lo {
-            hi = lo + (to - at);
-        }
+        let hi = (lo + (to - at)).min(64);
         let k = (at / 64 % 128) as usize;
-        words[k] = without(words[k], lo, hi);
-        at = at + (hi - lo);
+        words[k] = ring::without(words[k], lo, hi);
+        at += hi - lo;
     }
 }
 
-// Moves the window up so far that n is not above it, and tells its top. The slots that it passes are cleared, all of them for a jump of 8,192 or more.
-fn slide(words: &mut [u64; 128], top: u64, n: u64) -> u64
-    requires { (n < 2 ^ 62) × Whole words.old }
-    ensures slid { Slid (joined words.old top) n (joined words.new result) }
-    ensures whole { Whole words.new }
+// Moves the window up so far that n is not above it. The slots that it passes are cleared, all of them for a jump of 8,192 or more.
+fn slide(seen: &mut Record, n: u64)
+    requires { (n < 2 ^ 62) × Whole seen.old.words }
+    ensures slid { Slid seen.old n seen.new }
+    ensures whole { Whole seen.new.words }
 {
-    if n < top {
-        return top;
+    if n < seen.top {
+        return;
     }
-    let mut from = top;
-    if 8192 <= n - top {
-        from = n - 8191;
-    }
-    clear(words, from, n + 1);
-    n + 1
+    let from = seen.top.max(n.saturating_sub(8191));
+    clear(&mut seen.words, from, n + 1);
+    seen.top = n + 1;
 }
 
-// Marks the number n, which is not below the record, and tells the top after it.
-fn mark(words: &mut [u64; 128], top: u64, n: u64) -> u64
-    requires { (n < 2 ^ 62) × (top ≤ n + 8192) × Whole words.old }
-    ensures marked { Marked (joined words.old top) n (joined words.new result) }
-    ensures whole { Whole words.new }
+// Marks the number n, which is not below the record.
+fn mark(seen: &mut Record, n: u64)
+    requires { (n < 2 ^ 62) × (seen.old.top ≤ n + 8192) × Whole seen.old.words }
+    ensures marked { Marked seen.old n seen.new }
+    ensures whole { Whole seen.new.words }
 {
-    let next = slide(words, top, n);
+    slide(seen, n);
     let k = (n / 64 % 128) as usize;
-    words[k] = put(words[k], n % 64);
-    next
+    seen.words[k] = put(seen.words[k], n % 64);
 }
 
-// 128 words of 64 bits, as every value of the type is: a fact for the proof of what is lent, and no code.
-fn whole(words: [u64; 128])
-    ensures { Whole words }
-{}
-
-// The answer to a number that comes: 120, 111, 106, 107 or 0.
-fn answer_to(words: &[u64; 128], top: u64, n: u64) -> Answer
-    ensures { result ≡ (taken_of (joined words.now top) n).answer }
+// 128 words of 64 bits, as every value of the type is: a fact for the proof of what is lent, which reading one of them tells.
+fn whole(words: &[u64; 128])
+    ensures { Whole words.now }
 {
-    let Answer::Accepted = check_of(words, top) else {
-        return Answer::DoesNotFit;
-    };
+    let _first = words[0];
+}
+
+// Whether a number that comes may be recorded: 120, 111, 106 or 107 if not.
+#[tactic(auto, unfolding(crate::specs::Ring::taken_of, crate::specs::Marks::test_of, crate::specs::Marks::check_of))]
+fn answer_to(seen: &Record, n: u64) -> Result<(), Answer>
+    ensures { result ≡ outcome_of (taken_of seen.now n).answer }
+{
+    check_of(seen)?;
     if MOST < n {
-        return Answer::NoSuchNumber;
+        return Err(Answer::NoSuchNumber);
     }
-    test_of(words, top, n)
+    test_of(seen, n)
 }
 
-// Records a number that comes in words that are lent: 120, 111, 106 and 107 leave them and the top as they were.
+// Records a number that comes in a record that is lent: 120, 111, 106 and 107 leave it as it was.
 // Public as a part of taking a packet: `spaces::recorded` records the number in place. `packets::checks::begin` has asked for 120 before, and it is asked again here.
-pub fn take_of(words: &mut [u64; 128], top: u64, n: u64) -> Topped
-    ensures { taken_in result words.new ≡ taken_of (joined words.old top) n }
+pub fn take_of(seen: &mut Record, n: u64) -> Result<(), Answer>
+    ensures { (result, seen.new) ≡ taken_as (taken_of seen.old n) }
 {
-    let answer = answer_to(words, top, n);
-    let Answer::Accepted = answer else {
-        return Topped { answer, top };
-    };
-    whole(*words);
-    let next = mark(words, top, n);
-    Topped { answer, top: next }
-}
-
-// The next run in words that are lent; 120 if they are no record.
-fn next_run_of(words: &[u64; 128], top: u64, below: u64) -> Found
-    ensures { result ≡ found_of (joined words.now top) below }
-{
-    let Answer::Accepted = check_of(words, top) else {
-        return Found::Refused {
-            answer: Answer::DoesNotFit,
-        };
-    };
-    Found::Is {
-        run: ring::next_run(words, top, below),
-    }
+    answer_to(seen, n)?;
+    whole(&seen.words);
+    mark(seen, n);
+    Ok(())
 }
 
 impl Record {
     // The record of a space of which nothing came.
+    #[tactic(auto, unfolding(crate::specs::Marks::none_of))]
     pub fn new() -> Self
         ensures { result ≡ none_of }
     {
@@ -208,27 +161,27 @@ impl Record {
     }
 
     // 120 for a record that does not fit.
-    pub fn check(self) -> Answer
-        ensures { result ≡ check_of self }
+    pub fn check(self) -> Result<(), Answer>
+        ensures { result ≡ outcome_of (check_of self) }
     {
-        check_of(&self.words, self.top)
+        check_of(&self)
     }
 
     // What `take` would answer: 120 for a record that does not fit, 111 above 2^62-1, 106 for a number below the record, 107 for one in it already.
-    pub fn test(self, n: u64) -> Answer
-        ensures { result ≡ (taken_of self n).answer }
+    pub fn test(self, n: u64) -> Result<(), Answer>
+        ensures { result ≡ outcome_of (taken_of self n).answer }
     {
-        answer_to(&self.words, self.top, n)
+        answer_to(&self, n)
     }
 
     // Records a number that comes: 120, 111, 106 and 107 leave the record as it was.
     pub fn take(mut self, n: u64) -> Taken
         ensures { result ≡ taken_of self n }
     {
-        let top = self.top;
-        let told = take_of(&mut self.words, top, n);
-        self.top = told.top;
-        let answer = told.answer;
+        let answer = match take_of(&mut self, n) {
+            Ok(()) => Answer::Accepted,
+            Err(refused) => refused,
+        };
         Taken {
             answer,
             record: self,
@@ -236,9 +189,11 @@ impl Record {
     }
 
     // The next run of recorded numbers below `below`, as long as it can be; 120 for a record that does not fit.
-    pub fn next_run(self, below: u64) -> Found
+    #[tactic(auto, unfolding(crate::specs::Found::found_of, crate::specs::Marks::recorded, crate::specs::Marks::check_of))]
+    pub fn next_run(self, below: u64) -> Result<Option<Run>, Answer>
         ensures { result ≡ found_of self below }
     {
-        next_run_of(&self.words, self.top, below)
+        check_of(&self)?;
+        Ok(ring::next_run(&self.words, self.top, below))
     }
 }

@@ -1,165 +1,95 @@
 // The calls that need no connection: splitting a datagram, packet numbers, and a frame read and written again.
 use crate::commands::Alone;
 use crate::say;
-use datagram::{Header, Kind, Next};
-use frames::{Frame, Reading};
-use numbers::{Length, Recovered, Size};
-use wire::Wrote;
+use crate::say::{Out, front};
+use datagram::{Header, Kind};
 
-fn kind(out: &mut [u8; 16384], at: usize, k: Kind) -> usize {
+fn kind(k: Kind, out: &mut Out) {
     match k {
-        Kind::Initial => say::text(out, at, b"Initial"),
-        Kind::ZeroRtt => say::text(out, at, b"0-RTT"),
-        Kind::Handshake => say::text(out, at, b"Handshake"),
-        Kind::Retry => say::text(out, at, b"Retry"),
-        Kind::OneRtt => say::text(out, at, b"1-RTT"),
-        Kind::VersionNegotiation => say::text(out, at, b"Version_Negotiation"),
-        Kind::OtherVersion => say::text(out, at, b"other_version"),
+        Kind::Initial => out.text(b"Initial"),
+        Kind::ZeroRtt => out.text(b"0-RTT"),
+        Kind::Handshake => out.text(b"Handshake"),
+        Kind::Retry => out.text(b"Retry"),
+        Kind::OneRtt => out.text(b"1-RTT"),
+        Kind::VersionNegotiation => out.text(b"Version_Negotiation"),
+        Kind::OtherVersion => out.text(b"other_version"),
     }
 }
 
 // A short header has no version.
-fn version(out: &mut [u8; 16384], at: usize, k: Kind, n: u64) -> usize {
+fn version(k: Kind, n: u64, out: &mut Out) {
     match k {
-        Kind::OneRtt => say::text(out, at, b" -"),
-        _ => say::labelled(out, at, b" ", n),
+        Kind::OneRtt => out.text(b" -"),
+        _ => out.labelled(b" ", n),
     }
 }
 
 // A header, with places that count from the start of s.
-fn header(out: &mut [u8; 16384], at: usize, s: &[u8], h: Header) -> usize {
-    let k = h.kind;
-    let o = kind(out, at, k);
-    let p = version(out, o, k, h.version);
-    let q = say::bytes(out, p, s, h.destination.at, h.destination.len);
-    let r = say::bytes(out, q, s, h.source.at, h.source.len);
-    let t = say::bytes(out, r, s, h.token.at, h.token.len);
-    let u = say::labelled(out, t, b" ", h.number as u64);
-    let v = say::labelled(out, u, b" ", h.end as u64);
-    say::text(out, v, b"; ")
+fn header(h: Header, s: &[u8], out: &mut Out) {
+    kind(h.kind, out);
+    version(h.kind, h.version, out);
+    out.bytes(s, h.destination.at, h.destination.len);
+    out.bytes(s, h.source.at, h.source.len);
+    out.bytes(s, h.token.at, h.token.len);
+    out.labelled(b" ", h.number as u64);
+    out.labelled(b" ", h.end as u64);
+    out.text(b"; ");
 }
 
-// How long the answer is after a packet, and the place after that packet.
-#[derive(Clone, Copy)]
-struct Told {
-    len: usize,
-    next: usize,
-}
-
-// The packet at a place of a datagram, or 110; there the place stays the same.
-fn packet(out: &mut [u8; 16384], o: usize, s: &[u8], at: usize) -> Told {
-    if s.len() < at {
-        return Told { len: o, next: at };
-    }
-    let Next::Packet { header: h } = datagram::split(&s[at..]) else {
-        let len = say::text(out, o, b"110");
-        return Told { len, next: at };
-    };
-    let len = header(out, o, &s[at..], h);
-    let size = h.end;
-    if s.len() - at < size {
-        return Told { len, next: at };
-    }
-    Told {
-        len,
-        next: at + size,
+// The packet at the front of what is left of a datagram, and how long it is; or 110.
+fn packet(s: &[u8], out: &mut Out) -> Option<usize> {
+    match datagram::split(s) {
+        Ok(h) => {
+            header(h, s, out);
+            Some(h.end)
+        },
+        Err(answer) => {
+            out.number(answer.number());
+            None
+        },
     }
 }
 
-// Each packet of a datagram in turn, as long as the place goes on.
-fn packets(out: &mut [u8; 16384], s: &[u8]) -> usize {
-    let mut len = 0;
-    let mut at = 0;
-    while at < s.len() {
-        let told = packet(out, len, s, at);
-        len = told.len;
-        if told.next <= at {
-            return len;
+// Each packet of a datagram in turn, as long as there is one.
+fn packets(s: &[u8], out: &mut Out) {
+    let mut rest = s;
+    while !rest.is_empty() {
+        let Some(size) = packet(rest, out) else {
+            return;
+        };
+        if size == 0 || rest.len() < size {
+            return;
         }
-        at = told.next;
+        rest = &rest[size..];
     }
-    say::text(out, len, b"done")
+    out.text(b"done");
 }
 
-fn split(s: &[u8], count: usize, out: &mut [u8; 16384]) -> usize {
-    if s.len() < count {
-        return 0;
-    }
-    packets(out, &s[0..count])
+fn length(pn: u64, acked: i64, out: &mut Out) {
+    out.told(numbers::send_length(pn, acked).map(|size| size.bytes() as u64))
 }
 
-fn bytes_in(s: Size) -> u64 {
-    match s {
-        Size::One => 1,
-        Size::Two => 2,
-        Size::Three => 3,
-        Size::Four => 4,
-    }
-}
-
-fn recover(expected: u64, size: Size, truncated: u64, out: &mut [u8; 16384]) -> usize {
-    match numbers::recover(expected, size, truncated) {
-        Recovered::Is { number } => say::labelled(out, 0, b"0 ", number),
-        Recovered::Refused { answer } => {
-            let o = say::number(out, 0, answer.number());
-            say::text(out, o, b" -")
-        },
-    }
-}
-
-fn length(pn: u64, acked: i64, out: &mut [u8; 16384]) -> usize {
-    match numbers::send_length(pn, acked) {
-        Length::Is { size } => say::labelled(out, 0, b"0 ", bytes_in(size)),
-        Length::Refused { answer } => {
-            let o = say::number(out, 0, answer.number());
-            say::text(out, o, b" -")
-        },
-    }
-}
-
-// Writes a frame of s into an output of so many bytes, which `again` has.
-fn write(f: Frame, s: &[u8], again: &mut [u8], room: usize) -> Wrote {
-    if again.len() < room {
-        return writing::write(f, s, again, 0);
-    }
-    writing::write(f, s, &mut again[0..room], 0)
-}
-
-fn again_of(s: &[u8], room: usize, out: &mut [u8; 16384]) -> usize {
+fn again(s: &[u8], room: usize, out: &mut Out) {
     match frames::read_any(s, 0) {
-        Reading::Got {
-            frame,
-            ty: _,
-            next: _,
-        } => {
+        Ok(read) => {
             let mut again = [0u8; 2048];
-            let w = write(frame, s, &mut again, room);
-            say::wrote(out, w, &again)
+            let wrote = writing::write(read.frame, s, say::room(&mut again, room), 0);
+            out.wrote(wrote, &again);
         },
-        Reading::Refused { answer, ty: _ } => {
-            let o = say::number(out, 0, answer.number());
-            say::text(out, o, b" -")
-        },
+        Err(refusal) => out.refused(refusal.answer),
     }
 }
 
-fn again(s: &[u8], count: usize, room: usize, out: &mut [u8; 16384]) -> usize {
-    if s.len() < count {
-        return 0;
-    }
-    again_of(&s[0..count], room, out)
-}
-
-// Runs a call, and tells how long its answer is.
-pub fn run(alone: Alone, s: &[u8], out: &mut [u8; 16384]) -> usize {
+// Runs a call, whose bytes are the first of s.
+pub fn run(alone: Alone, s: &[u8], out: &mut Out) {
     match alone {
-        Alone::Split { count } => split(s, count, out),
+        Alone::Split { count } => packets(front(s, count), out),
         Alone::Recover {
             expected,
             size,
             truncated,
-        } => recover(expected, size, truncated, out),
+        } => out.told(numbers::recover(expected, size, truncated)),
         Alone::Length { pn, acked } => length(pn, acked, out),
-        Alone::Again { count, room } => again(s, count, room, out),
+        Alone::Again { count, room } => again(front(s, count), room, out),
     }
 }

@@ -1,9 +1,8 @@
-// The words of a line, by their place in it: as a name, a number or bytes.
-use hexes::Pairs;
+// The words of a line, by their place in it: as a name, a number or bytes. A word that is not what is asked for answers its place.
+use kinds::Space;
 use lines::words;
 use lines::words::Signed;
 use text::decimal;
-use text::decimal::Parsed;
 
 // Whether a word is this one.
 pub fn is(s: &[u8], n: usize, word: &[u8]) -> bool {
@@ -11,16 +10,26 @@ pub fn is(s: &[u8], n: usize, word: &[u8]) -> bool {
 }
 
 // A word as a number.
-pub fn number(s: &[u8], n: usize) -> Parsed {
-    decimal::read(words::word(s, n))
+pub fn number(s: &[u8], n: usize) -> Result<u64, usize> {
+    decimal::read(words::word(s, n)).ok_or(n)
 }
 
 // A word as a number that may have "-" before its digits.
-pub fn with_sign(s: &[u8], n: usize) -> Signed {
-    words::with_sign(words::word(s, n))
+pub fn with_sign(s: &[u8], n: usize) -> Result<Signed, usize> {
+    words::with_sign(words::word(s, n)).ok_or(n)
 }
 
-// A word as bytes, which go to the front of the output.
-pub fn bytes(s: &[u8], n: usize, out: &mut [u8]) -> Pairs {
-    words::bytes(words::word(s, n), out)
+// A word as bytes, which go to the front of the output: how many they are.
+pub fn bytes(s: &[u8], n: usize, out: &mut [u8]) -> Result<usize, usize> {
+    words::bytes(words::word(s, n), out).ok().ok_or(n)
+}
+
+// A word as the number of a space.
+pub fn space(s: &[u8], n: usize) -> Result<Space, usize> {
+    match number(s, n)? {
+        0 => Ok(Space::Initial),
+        1 => Ok(Space::Handshake),
+        2 => Ok(Space::Application),
+        _ => Err(n),
+    }
 }

@@ -1,68 +1,94 @@
-// What lines are written with: texts, numbers and bytes, each at a place of the output, telling the place after it.
+// What a line is written with: texts, numbers and bytes, each after what was said so far.
+use answers::Answer;
 use std::io;
 use text::{decimal, put};
-use wire::Wrote;
 
-// The place after what was written. The output is longer than any answer or reason, so that nothing is left off.
-fn after(w: Wrote, at: usize) -> usize {
-    match w {
-        Wrote::To { next } => next,
-        Wrote::Refused { answer: _ } => at,
+// A line as it grows. It is longer than any answer or reason, so that nothing is left off.
+#[derive(Drop)]
+pub struct Out {
+    line: [u8; 16384],
+    len: usize,
+}
+
+impl Out {
+    pub fn new() -> Self {
+        Out {
+            line: [0u8; 16384],
+            len: 0,
+        }
+    }
+
+    pub fn is_empty(&self) -> bool {
+        self.len == 0
+    }
+
+    pub fn text(&mut self, t: &[u8]) {
+        self.len = put::bytes(&mut self.line, self.len, t).unwrap_or(self.len);
+    }
+
+    pub fn number(&mut self, n: u64) {
+        self.len = decimal::write(&mut self.line, self.len, n).unwrap_or(self.len);
+    }
+
+    // A text and a number.
+    pub fn labelled(&mut self, t: &[u8], n: u64) {
+        self.text(t);
+        self.number(n);
+    }
+
+    // A blank, and so many bytes of s from a place on, or "-" if there are none.
+    pub fn bytes(&mut self, s: &[u8], from: usize, len: usize) {
+        self.text(b" ");
+        if s.len() < from || s.len() - from < len {
+            return;
+        }
+        if len == 0 {
+            self.text(b"-");
+            return;
+        }
+        let part = &s[from..from + len];
+        self.len = hexes::write(&mut self.line, self.len, part).unwrap_or(self.len);
+    }
+
+    // The answer of a call that tells a number, and none on refusal.
+    pub fn told(&mut self, told: Result<u64, Answer>) {
+        match told {
+            Ok(n) => self.labelled(b"0 ", n),
+            Err(answer) => self.refused(answer),
+        }
+    }
+
+    // The answer of a writer, and the bytes that it wrote to the front of s.
+    pub fn wrote(&mut self, wrote: Result<usize, Answer>, s: &[u8]) {
+        match wrote {
+            Ok(end) => {
+                self.text(b"0");
+                self.bytes(s, 0, end);
+            },
+            Err(answer) => self.refused(answer),
+        }
+    }
+
+    // The answer that refuses a call, which then tells nothing.
+    pub fn refused(&mut self, answer: Answer) {
+        self.number(answer.number());
+        self.text(b" -");
+    }
+
+    // Writes the line, with its newline, to standard output or standard error at once.
+    pub fn send(&mut self, to: &impl Print) -> io::Result<()> {
+        self.text(b"\n");
+        to.write_all(front(&self.line, self.len))
     }
 }
 
-pub fn text(out: &mut [u8; 16384], at: usize, t: &[u8]) -> usize {
-    after(put::bytes(out, at, t), at)
+// The first bytes of a row, all if there are fewer.
+pub fn front(row: &[u8], len: usize) -> &[u8] {
+    &row[..len.min(row.len())]
 }
 
-pub fn number(out: &mut [u8; 16384], at: usize, n: u64) -> usize {
-    after(decimal::write(out, at, n), at)
-}
-
-// A text and a number.
-pub fn labelled(out: &mut [u8; 16384], at: usize, t: &[u8], n: u64) -> usize {
-    let o = text(out, at, t);
-    number(out, o, n)
-}
-
-// A blank, and so many bytes of s from a place on, or "-" if there are none.
-pub fn bytes(out: &mut [u8; 16384], at: usize, s: &[u8], from: usize, len: usize) -> usize {
-    let o = text(out, at, b" ");
-    if s.len() < from {
-        return o;
-    }
-    if s.len() - from < len {
-        return o;
-    }
-    if len == 0 {
-        return text(out, o, b"-");
-    }
-    let end = from + len;
-    after(hexes::write(out, o, &s[from..end]), o)
-}
-
-fn first(to: &impl Print, s: &[u8], len: usize) -> io::Result<()> {
-    if s.len() < len {
-        return Ok(());
-    }
-    to.write_all(&s[0..len])
-}
-
-// Writes the first bytes of the output, a line with its newline, to standard output or standard error at once.
-pub fn send(to: &impl Print, out: &[u8; 16384], len: usize) -> io::Result<()> {
-    first(to, out, len)
-}
-
-// The answer of a writer, and the bytes that it wrote to the front of s.
-pub fn wrote(out: &mut [u8; 16384], w: Wrote, s: &[u8]) -> usize {
-    match w {
-        Wrote::To { next } => {
-            let o = text(out, 0, b"0");
-            bytes(out, o, s, 0, next)
-        },
-        Wrote::Refused { answer } => {
-            let o = number(out, 0, answer.number());
-            text(out, o, b" -")
-        },
-    }
+// The front of an output, so many bytes of it: as many as there are at most.
+pub fn room(output: &mut [u8], n: usize) -> &mut [u8] {
+    let len = n.min(output.len());
+    &mut output[..len]
 }

@@ -1,232 +1,142 @@
 // What a script may change behind the core's back, so that 120 can be seen: a number of the connection, an entry of its
 // table, a word or the top of a record. Each command begins with `set`.
-use crate::commands::SpaceWord;
 use crate::session::Session;
-use crate::{commands, line, session};
+use crate::{line, session};
 use entries::Entry;
 use kinds::Space;
-use streams::Conn;
-use text::decimal::Parsed;
+use lines::words;
 
-// What is changed; or, as for a command, the place of the first word that cannot stand there.
+// What is changed.
 #[derive(Clone, Copy)]
 pub enum Spoil {
-    Wrong { word: usize },
     Total { new: u64 },
     Credit { new: u64 },
-    Count { at: u64, new: u64 },
-    Opened { at: u64, new: u64 },
-    Initial { at: u64, new: u64 },
-    Place { at: u64, entry: Entry },
-    Word { space: Space, at: u64, new: u64 },
+    Count { at: usize, new: u64 },
+    Opened { at: usize, new: u64 },
+    Initial { at: usize, new: u64 },
+    Place { at: usize, entry: Entry },
+    Word { space: Space, at: usize, new: u64 },
     Top { space: Space, new: u64 },
 }
 
-// A number of the connection itself.
-fn of_two(s: &[u8]) -> Spoil {
-    let total = line::is(s, 1, b"total");
-    if !total && !line::is(s, 1, b"credit") {
-        return Spoil::Wrong { word: 1 };
-    }
-    let Parsed::Is { value: new } = line::number(s, 2) else {
-        return Spoil::Wrong { word: 2 };
-    };
-    if total {
-        return Spoil::Total { new };
-    }
-    Spoil::Credit { new }
-}
-
 // A word as an index below a bound.
-fn index(s: &[u8], n: usize, bound: u64) -> Parsed {
-    let Parsed::Is { value } = line::number(s, n) else {
-        return Parsed::Wrong;
-    };
-    if value < bound {
-        return Parsed::Is { value };
-    }
-    Parsed::Wrong
+fn index(s: &[u8], n: usize, bound: u64) -> Result<usize, usize> {
+    let at = line::number(s, n)?;
+    if at < bound { Ok(at as usize) } else { Err(n) }
 }
 
 // The index of a count: they are those of halves 0 and 2, in this order.
-fn counted(s: &[u8]) -> Parsed {
-    let Parsed::Is { value: half } = line::number(s, 2) else {
-        return Parsed::Wrong;
-    };
-    match half {
-        0 => Parsed::Is { value: 0 },
-        2 => Parsed::Is { value: 1 },
-        _ => Parsed::Wrong,
+fn counted(s: &[u8], n: usize) -> Result<usize, usize> {
+    match line::number(s, n)? {
+        0 => Ok(0),
+        2 => Ok(1),
+        _ => Err(n),
     }
-}
-
-fn count(s: &[u8]) -> Spoil {
-    let Parsed::Is { value: at } = counted(s) else {
-        return Spoil::Wrong { word: 2 };
-    };
-    let Parsed::Is { value: new } = line::number(s, 3) else {
-        return Spoil::Wrong { word: 3 };
-    };
-    Spoil::Count { at, new }
-}
-
-fn opened(s: &[u8]) -> Spoil {
-    let Parsed::Is { value: at } = index(s, 2, 4) else {
-        return Spoil::Wrong { word: 2 };
-    };
-    let Parsed::Is { value: new } = line::number(s, 3) else {
-        return Spoil::Wrong { word: 3 };
-    };
-    Spoil::Opened { at, new }
-}
-
-fn initial(s: &[u8]) -> Spoil {
-    let Parsed::Is { value: at } = index(s, 2, 3) else {
-        return Spoil::Wrong { word: 2 };
-    };
-    let Parsed::Is { value: new } = line::number(s, 3) else {
-        return Spoil::Wrong { word: 3 };
-    };
-    Spoil::Initial { at, new }
-}
-
-fn top(s: &[u8]) -> Spoil {
-    let SpaceWord::Is { space } = commands::space(s, 2) else {
-        return Spoil::Wrong { word: 2 };
-    };
-    let Parsed::Is { value: new } = line::number(s, 3) else {
-        return Spoil::Wrong { word: 3 };
-    };
-    Spoil::Top { space, new }
-}
-
-// A number of a half, or the top of a record.
-fn of_three(s: &[u8]) -> Spoil {
-    if line::is(s, 1, b"count") {
-        return count(s);
-    }
-    if line::is(s, 1, b"opened") {
-        return opened(s);
-    }
-    if line::is(s, 1, b"initial") {
-        return initial(s);
-    }
-    if line::is(s, 1, b"top") {
-        return top(s);
-    }
-    Spoil::Wrong { word: 1 }
-}
-
-// A word of a record.
-fn of_four(s: &[u8]) -> Spoil {
-    if !line::is(s, 1, b"word") {
-        return Spoil::Wrong { word: 1 };
-    }
-    let SpaceWord::Is { space } = commands::space(s, 2) else {
-        return Spoil::Wrong { word: 2 };
-    };
-    let Parsed::Is { value: at } = index(s, 3, 128) else {
-        return Spoil::Wrong { word: 3 };
-    };
-    let Parsed::Is { value: new } = line::number(s, 4) else {
-        return Spoil::Wrong { word: 4 };
-    };
-    Spoil::Word { space, at, new }
 }
 
 // A final size; `-` for none.
-fn final_size(s: &[u8]) -> Parsed {
-    if line::is(s, 5, b"-") {
-        return Parsed::Is {
-            value: Entry::UNKNOWN,
-        };
+fn final_size(s: &[u8], n: usize) -> Result<u64, usize> {
+    if line::is(s, n, b"-") {
+        return Ok(Entry::UNKNOWN);
     }
-    line::number(s, 5)
+    line::number(s, n)
+}
+
+// A number of the connection itself.
+fn of_two(s: &[u8]) -> Result<Spoil, usize> {
+    match words::word(s, 1) {
+        b"total" => Ok(Spoil::Total {
+            new: line::number(s, 2)?,
+        }),
+        b"credit" => Ok(Spoil::Credit {
+            new: line::number(s, 2)?,
+        }),
+        _ => Err(1),
+    }
+}
+
+// A number of a half, or the top of a record.
+fn of_three(s: &[u8]) -> Result<Spoil, usize> {
+    match words::word(s, 1) {
+        b"count" => Ok(Spoil::Count {
+            at: counted(s, 2)?,
+            new: line::number(s, 3)?,
+        }),
+        b"opened" => Ok(Spoil::Opened {
+            at: index(s, 2, 4)?,
+            new: line::number(s, 3)?,
+        }),
+        b"initial" => Ok(Spoil::Initial {
+            at: index(s, 2, 3)?,
+            new: line::number(s, 3)?,
+        }),
+        b"top" => Ok(Spoil::Top {
+            space: line::space(s, 2)?,
+            new: line::number(s, 3)?,
+        }),
+        _ => Err(1),
+    }
+}
+
+// A word of a record.
+fn of_four(s: &[u8]) -> Result<Spoil, usize> {
+    match words::word(s, 1) {
+        b"word" => Ok(Spoil::Word {
+            space: line::space(s, 2)?,
+            at: index(s, 3, 128)?,
+            new: line::number(s, 4)?,
+        }),
+        _ => Err(1),
+    }
 }
 
 // An entry of the table.
-fn of_five(s: &[u8]) -> Spoil {
-    if !line::is(s, 1, b"entry") {
-        return Spoil::Wrong { word: 1 };
+fn of_five(s: &[u8]) -> Result<Spoil, usize> {
+    match words::word(s, 1) {
+        b"entry" => Ok(Spoil::Place {
+            at: index(s, 2, 192)?,
+            entry: Entry {
+                credit: line::number(s, 3)?,
+                end: line::number(s, 4)?,
+                size: final_size(s, 5)?,
+            },
+        }),
+        _ => Err(1),
     }
-    let Parsed::Is { value: at } = index(s, 2, 192) else {
-        return Spoil::Wrong { word: 2 };
-    };
-    let Parsed::Is { value: credit } = line::number(s, 3) else {
-        return Spoil::Wrong { word: 3 };
-    };
-    let Parsed::Is { value: end } = line::number(s, 4) else {
-        return Spoil::Wrong { word: 4 };
-    };
-    let Parsed::Is { value: size } = final_size(s) else {
-        return Spoil::Wrong { word: 5 };
-    };
-    let entry = Entry { credit, end, size };
-    Spoil::Place { at, entry }
 }
 
-// A line of n words that begins with `set`.
-pub fn read(s: &[u8], n: usize) -> Spoil {
+// A line of n words that begins with `set`; as for a command, the place of the first word that cannot stand there.
+pub fn read(s: &[u8], n: usize) -> Result<Spoil, usize> {
     match n {
         3 => of_two(s),
         4 => of_three(s),
         5 => of_four(s),
         6 => of_five(s),
-        _ => Spoil::Wrong { word: 0 },
+        _ => Err(0),
     }
-}
-
-// The connection with a number of its own changed.
-fn on_conn(c: Conn, spoil: Spoil) -> Conn {
-    let mut conn = c;
-    let mut limits = c.limits;
-    match spoil {
-        Spoil::Total { new } => conn.total = new,
-        Spoil::Credit { new } => limits.credit = new,
-        Spoil::Count { at, new } => {
-            if at < 2 {
-                limits.counts[at as usize] = new;
-            }
-        },
-        Spoil::Initial { at, new } => {
-            if at < 3 {
-                limits.initial[at as usize] = new;
-            }
-        },
-        Spoil::Opened { at, new } => {
-            if at < 4 {
-                conn.opened[at as usize] = new;
-            }
-        },
-        _ => {},
-    }
-    conn.limits = limits;
-    conn
 }
 
 // What the host keeps, spoiled.
 pub fn spoiled(now: Session, spoil: Spoil) -> Session {
-    let mut table = now.table;
-    let mut records = now.records;
+    let mut now = now;
     match spoil {
-        Spoil::Place { at, entry } => {
-            if at < 192 {
-                table[at as usize] = entry;
-            }
-        },
-        Spoil::Word { space, at, new } => {
-            let mut r = session::record(records, space);
-            if at < 128 {
-                r.words[at as usize] = new;
-            }
-            records = session::with(records, space, r);
+        Spoil::Total { new } => now.conn.total = new,
+        Spoil::Credit { new } => now.conn.limits.credit = new,
+        Spoil::Count { at, new } if at < 2 => now.conn.limits.counts[at] = new,
+        Spoil::Initial { at, new } if at < 3 => now.conn.limits.initial[at] = new,
+        Spoil::Opened { at, new } if at < 4 => now.conn.opened[at] = new,
+        Spoil::Place { at, entry } if at < 192 => now.table[at] = entry,
+        Spoil::Word { space, at, new } if at < 128 => {
+            let mut r = session::record(now.records, space);
+            r.words[at] = new;
+            now.records = session::with(now.records, space, r);
         },
         Spoil::Top { space, new } => {
-            let mut r = session::record(records, space);
+            let mut r = session::record(now.records, space);
             r.top = new;
-            records = session::with(records, space, r);
+            now.records = session::with(now.records, space, r);
         },
         _ => {},
     }
-    session::of(on_conn(now.conn, spoil), records, table)
+    now
 }

@@ -1,82 +1,90 @@
 // A line that has ended: read as a command, run, and answered.
-use crate::commands::Command;
-use crate::session::{Ran, Session};
-use crate::{alone, commands, reasons, say, within};
-use lines::gather::Line;
+use crate::commands::{Command, Within};
+use crate::say::{Out, front};
+use crate::session::Session;
+use crate::{alone, commands, reasons, within};
 use std::io;
 
-fn answer(now: Session, command: Command, s: &[u8], out: &mut [u8; 16384]) -> Ran {
-    match command {
-        Command::Blank => Ran {
-            session: now,
-            len: 0,
+// What was read leaves: the session, if a connection was opened, what is kept of a line, and the line's number. The largest number stays, so that no
+// input has too many lines.
+#[derive(Clone, Copy)]
+pub struct Fed {
+    pub session: Option<Session>,
+    pub line: Option<usize>,
+    pub number: u64,
+}
+
+// A command that needs a connection, where there is one.
+fn within(now: Option<Session>, within: Within, s: &[u8], out: &mut Out) -> Option<Session> {
+    match now {
+        Some(now) => Some(within::run(now, within, s, out)),
+        None => {
+            out.text(b"none");
+            None
         },
-        Command::What { word: _ } => Ran {
-            session: now,
-            len: say::text(out, 0, b"what"),
-        },
-        Command::Open {
-            role,
-            init0,
-            init1,
-            init2,
-            count0,
-            count2,
-            credit,
-        } => within::open(now, role, init0, init1, init2, count0, count2, credit, out),
-        Command::Alone { alone } => Ran {
-            session: now,
-            len: alone::run(alone, s, out),
-        },
-        Command::Within { within } => within::run(now, within, s, out),
     }
 }
 
-// Runs a line, and writes its answer with a newline, if it has one; then, if it is no call, the reason.
+// The session after a command; a connection that is not opened leaves the one there was.
+fn answer(now: Option<Session>, command: Command, s: &[u8], out: &mut Out) -> Option<Session> {
+    match command {
+        Command::Blank => now,
+        Command::Open { role, limits } => within::open(role, limits, out).or(now),
+        Command::Alone(alone) => {
+            alone::run(alone, s, out);
+            now
+        },
+        Command::Within(command) => within(now, command, s, out),
+    }
+}
+
+// Runs a command, and writes its answer, if it has one.
+fn call(
+    to: &impl Print,
+    now: Option<Session>,
+    command: Command,
+    s: &[u8],
+) -> io::Result<Option<Session>> {
+    let mut out = Out::new();
+    let after = answer(now, command, s, &mut out);
+    if !out.is_empty() {
+        out.send(to)?;
+    }
+    Ok(after)
+}
+
+// Runs a line; of one that is no call, the reason is told after its answer.
 fn run(
     to: &impl Print,
     err: &impl Print,
-    now: Session,
+    now: Option<Session>,
     s: &[u8],
     number: u64,
-) -> io::Result<Session> {
+) -> io::Result<Option<Session>> {
     let mut bytes = [0u8; 2048];
-    let mut out = [0u8; 16384];
-    let command = commands::read(s, &mut bytes);
-    let ran = answer(now, command, &bytes, &mut out);
-    if 0 < ran.len {
-        let len = say::text(&mut out, ran.len, b"\n");
-        say::send(to, &out, len)?;
-    }
-    if let Command::What { word } = command {
-        reasons::no_call(err, number, s, word)?;
-    }
-    Ok(ran.session)
-}
-
-// The first bytes of a row, all if there are fewer.
-fn front(row: &[u8], len: usize) -> &[u8] {
-    if row.len() < len {
-        return row;
-    }
-    &row[0..len]
-}
-
-// Runs the line that is kept at the front of a row; its number is for the reason, if it needs one.
-pub fn ended(
-    to: &impl Print,
-    err: &impl Print,
-    now: Session,
-    row: &[u8],
-    line: Line,
-    number: u64,
-) -> io::Result<Session> {
-    match line {
-        Line::Kept { len } => run(to, err, now, front(row, len), number),
-        Line::TooLong => {
-            to.write_all(b"too long\n")?;
-            reasons::too_long(err, number)?;
+    match commands::read(s, &mut bytes) {
+        Ok(command) => call(to, now, command, &bytes),
+        Err(word) => {
+            to.write_all(b"what\n")?;
+            reasons::no_call(err, number, s, word)?;
             Ok(now)
         },
     }
+}
+
+// Runs the line that is kept at the front of a row, and begins the next one.
+pub fn ended(to: &impl Print, err: &impl Print, now: Fed, row: &[u8]) -> io::Result<Fed> {
+    let session = match now.line {
+        Some(len) => run(to, err, now.session, front(row, len), now.number)?,
+        None => {
+            to.write_all(b"too long\n")?;
+            reasons::too_long(err, now.number)?;
+            now.session
+        },
+    };
+    Ok(Fed {
+        session,
+        line: Some(0),
+        number: now.number.saturating_add(1),
+    })
 }

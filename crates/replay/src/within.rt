@@ -1,221 +1,143 @@
 // The commands that need a connection, run on the session, and opening one.
 use crate::commands::Within;
-use crate::session::{Ran, Session};
+use crate::say::{Out, front};
+use crate::session::Session;
 use crate::{say, session, spoils, state};
+use answers::Answer;
 use calls::Call;
-use entries::Entry;
 use kinds::{Kind, Role, Space};
-use records::Record;
-use spaces::Records;
+use owned::Owned;
 use steps::Shown;
-use streams::{Called, Conn, Limits};
-use wire::Wrote;
+use streams::{Called, Limits};
 
-// Opens a connection; a refusal leaves the one there was.
-pub fn open(
-    now: Session,
-    role: Role,
-    init0: u64,
-    init1: u64,
-    init2: u64,
-    count0: u64,
-    count2: u64,
-    credit: u64,
-    out: &mut [u8; 16384],
-) -> Ran {
-    let limits = Limits {
-        credit,
-        counts: [count0, count2],
-        initial: [init0, init1, init2],
+// Opens a connection; none on a refusal.
+pub fn open(role: Role, limits: Limits, out: &mut Out) -> Option<Session> {
+    let Owned { told, table } = owned::open(opening::room(), role, limits);
+    out.number(told.answer.number());
+    let Answer::Accepted = told.answer else {
+        return None;
     };
-    let h = owned::open(opening::room(), role, limits);
-    let opened = h.opened;
-    let answer = opened.answer;
-    let a = answer.number();
-    let o = say::number(out, 0, a);
-    if a != 0 {
-        return Ran {
-            session: now,
-            len: o,
-        };
-    }
-    let conn = opened.conn;
-    let table = h.table;
-    state::end(out, o, conn, session::no_records(), table)
+    let opened = Session {
+        conn: told.conn,
+        records: session::no_records(),
+        table,
+    };
+    Some(state::end(opened, out))
 }
 
 // The answer of a call that changes the connection alone.
-fn called(
-    d: Called,
-    records: Records,
-    table: [Entry; Conn::ENTRIES],
-    out: &mut [u8; 16384],
-) -> Ran {
-    let answer = d.answer;
-    let o = say::number(out, 0, answer.number());
-    let conn = d.conn;
-    state::end(out, o, conn, records, table)
+fn called(now: Session, d: Called, out: &mut Out) -> Session {
+    out.number(d.answer.number());
+    state::end(
+        Session {
+            conn: d.conn,
+            ..now
+        },
+        out,
+    )
 }
 
 // The same of a call that hands out a number: there is none on refusal.
-fn numbered(
-    d: Called,
-    records: Records,
-    table: [Entry; Conn::ENTRIES],
-    out: &mut [u8; 16384],
-) -> Ran {
-    let answer = d.answer;
-    let a = answer.number();
-    let o = say::number(out, 0, a);
-    let conn = d.conn;
-    let mut p = say::text(out, o, b" ");
-    if a == 0 {
-        p = say::number(out, p, d.number);
-    } else {
-        p = say::text(out, p, b"-");
+fn numbered(now: Session, d: Called, out: &mut Out) -> Session {
+    match d.answer {
+        Answer::Accepted => out.labelled(b"0 ", d.number),
+        refused => out.refused(refused),
     }
-    state::end(out, p, conn, records, table)
+    state::end(
+        Session {
+            conn: d.conn,
+            ..now
+        },
+        out,
+    )
 }
 
-// The call's bytes are the first of s, which has as many: the test only shows it, here and below.
-fn packet(
-    c: Conn,
-    records: Records,
-    table: [Entry; Conn::ENTRIES],
-    first: u8,
-    s: &[u8],
-    count: usize,
-    out: &mut [u8; 16384],
-) -> Ran {
-    if s.len() < count {
-        return state::end(out, 0, c, records, table);
-    }
-    let h = owned_calls::take_packet(c, records, table, first, &s[0..count]);
-    let took = h.took;
-    let answer = took.answer;
-    let o = say::number(out, 0, answer.number());
-    let conn = took.conn;
-    let after = took.records;
-    let rows = h.table;
-    state::end(out, o, conn, after, rows)
+fn packet(now: Session, first: u8, s: &[u8], out: &mut Out) -> Session {
+    let Owned { told, table } = owned_calls::take_packet(
+        now.conn,
+        now.records,
+        now.table,
+        first,
+        s,
+    );
+    out.number(told.answer.number());
+    let after = Session {
+        conn: told.conn,
+        records: told.records,
+        table,
+    };
+    state::end(after, out)
 }
 
 // A frame's type and the place after it.
-fn shown(out: &mut [u8; 16384], at: usize, shown: Shown) -> usize {
+fn shown(shown: Shown, out: &mut Out) {
     match shown {
-        Shown::Nothing => say::text(out, at, b" - -"),
+        Shown::Nothing => out.text(b" - -"),
         Shown::Typed { ty } => {
-            let o = say::labelled(out, at, b" ", ty);
-            say::text(out, o, b" -")
+            out.labelled(b" ", ty);
+            out.text(b" -");
         },
-        Shown::Whole { frame: _, ty, next } => {
-            let o = say::labelled(out, at, b" ", ty);
-            say::labelled(out, o, b" ", next as u64)
+        Shown::Whole { ty, next, .. } => {
+            out.labelled(b" ", ty);
+            out.labelled(b" ", next as u64);
         },
     }
 }
 
-fn frame(
-    c: Conn,
-    records: Records,
-    table: [Entry; Conn::ENTRIES],
-    kind: Kind,
-    s: &[u8],
-    count: usize,
-    out: &mut [u8; 16384],
-) -> Ran {
-    if s.len() < count {
-        return state::end(out, 0, c, records, table);
-    }
-    let h = owned::take_frame(c, table, &s[0..count], 0, kind);
-    let took = h.took;
-    let seen = took.shown;
-    let answer = took.answer;
-    let o = say::number(out, 0, answer.number());
-    let p = shown(out, o, seen);
-    let conn = took.conn;
-    let rows = h.table;
-    state::end(out, p, conn, records, rows)
+fn frame(now: Session, kind: Kind, s: &[u8], out: &mut Out) -> Session {
+    let Owned { told, table } = owned::take_frame(now.conn, now.table, s, 0, kind);
+    out.number(told.answer.number());
+    shown(told.shown, out);
+    let after = Session {
+        conn: told.conn,
+        table,
+        ..now
+    };
+    state::end(after, out)
 }
 
 // A local call: one that opens a stream answers its ID as well.
-fn make(
-    c: Conn,
-    records: Records,
-    table: [Entry; Conn::ENTRIES],
-    call: Call,
-    out: &mut [u8; 16384],
-) -> Ran {
-    let h = owned_calls::call(c, table, call);
-    let d = h.called;
-    let rows = h.table;
+fn make(now: Session, call: Call, out: &mut Out) -> Session {
+    let Owned { told, table } = owned_calls::call(now.conn, now.table, call);
+    let after = Session { table, ..now };
     match call {
-        Call::OpenNext { ty: _ } => numbered(d, records, rows, out),
-        Call::RaiseCredit { new: _ } => called(d, records, rows, out),
-        Call::RaiseStream { id: _, new: _ } => called(d, records, rows, out),
-        Call::RaiseCount { ty: _, new: _ } => called(d, records, rows, out),
+        Call::OpenNext { .. } => numbered(after, told, out),
+        _ => called(after, told, out),
     }
 }
 
-fn mark(
-    c: Conn,
-    records: Records,
-    table: [Entry; Conn::ENTRIES],
-    space: Space,
-    number: u64,
-    out: &mut [u8; 16384],
-) -> Ran {
-    let taken = session::record(records, space).take(number);
-    let answer = taken.answer;
-    let o = say::number(out, 0, answer.number());
-    let r = taken.record;
-    state::end(out, o, c, session::with(records, space, r), table)
+fn mark(now: Session, space: Space, number: u64, out: &mut Out) -> Session {
+    let taken = session::record(now.records, space).take(number);
+    out.number(taken.answer.number());
+    let after = Session {
+        records: session::with(now.records, space, taken.record),
+        ..now
+    };
+    state::end(after, out)
 }
 
-// Writes the acknowledgement of a record into an output of so many bytes, which `frame` has.
-fn acknowledge(r: Record, delay: u64, frame: &mut [u8], room: usize) -> Wrote {
-    if frame.len() < room {
-        return acks::write(r, delay, frame, 0);
-    }
-    acks::write(r, delay, &mut frame[0..room], 0)
-}
-
-fn ack(records: Records, space: Space, delay: u64, room: usize, out: &mut [u8; 16384]) -> usize {
+fn ack(now: Session, space: Space, delay: u64, room: usize, out: &mut Out) -> Session {
     let mut frame = [0u8; 2048];
-    let r = session::record(records, space);
-    let w = acknowledge(r, delay, &mut frame, room);
-    say::wrote(out, w, &frame)
+    let r = session::record(now.records, space);
+    let wrote = acks::write(r, delay, say::room(&mut frame, room), 0);
+    out.wrote(wrote, &frame);
+    now
 }
 
-// Runs a command on the connection.
-fn on(now: Session, within: Within, s: &[u8], out: &mut [u8; 16384]) -> Ran {
-    let c = now.conn;
-    let records = now.records;
-    let table = now.table;
+fn set(now: Session, spoil: spoils::Spoil, out: &mut Out) -> Session {
+    out.text(b"ok");
+    spoils::spoiled(now, spoil)
+}
+
+// Runs a command, whose bytes are the first of s.
+pub fn run(now: Session, within: Within, s: &[u8], out: &mut Out) -> Session {
     match within {
-        Within::Packet { first, count } => packet(c, records, table, first, s, count, out),
-        Within::Frame { kind, count } => frame(c, records, table, kind, s, count, out),
-        Within::Hand { space } => numbered(local::hand_out(c, space), records, table, out),
-        Within::Make { call } => make(c, records, table, call, out),
-        Within::Ack { space, delay, room } => Ran {
-            session: now,
-            len: ack(records, space, delay, room, out),
-        },
-        Within::Mark { space, number } => mark(c, records, table, space, number, out),
-        Within::Set { spoil } => Ran {
-            session: spoils::spoiled(now, spoil),
-            len: say::text(out, 0, b"ok"),
-        },
+        Within::Packet { first, count } => packet(now, first, front(s, count), out),
+        Within::Frame { kind, count } => frame(now, kind, front(s, count), out),
+        Within::Hand { space } => numbered(now, local::hand_out(now.conn, space), out),
+        Within::Make { call } => make(now, call, out),
+        Within::Ack { space, delay, room } => ack(now, space, delay, room, out),
+        Within::Mark { space, number } => mark(now, space, number, out),
+        Within::Set { spoil } => set(now, spoil, out),
     }
-}
-
-// Runs a command, if there is a connection.
-pub fn run(now: Session, within: Within, s: &[u8], out: &mut [u8; 16384]) -> Ran {
-    if !now.opened {
-        return Ran {
-            session: now,
-            len: say::text(out, 0, b"none"),
-        };
-    }
-    on(now, within, s, out)
 }

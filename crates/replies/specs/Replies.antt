@@ -1,5 +1,5 @@
 -- What a local call answers and leaves, docs/RULES.md, "Local calls": 101 before all else, and what an accepted call leaves of a connection and of ONE entry. A refused call changes nothing.
-use Rattle.std.specs.Prelude.{ℕ, not}
+use Rattle.std.specs.Prelude.{ℕ, not, Result, Ok, Err}
 use Rattle.answers.specs.Choice.{◌⇒◌∣◌}
 use Rattle.answers.specs.Answers.{accepts}
 use Rattle.answers.specs.declared.Answer.{Answer}
@@ -39,6 +39,13 @@ number_called c (RaiseCredit new) = 0
 number_called c (RaiseStream id new) = 0
 number_called c (RaiseCount ty new) = 0
 number_called c (OpenNext ty) = seated_of c.role (next_of c ty)
+
+-- the three together, or the answer that refuses: "101 on a closed connection", before all else that a call asks
+unfoldable pub made_of : Conn → Entry → Call → Result (ℕ × Conn × Entry) Answer
+made_of c e call =
+    not (is_open c.mark) ⇒ Err Closed
+    ∣ accepts (reply_of c e call) ⇒ Ok (number_called c call, conn_called c call, entry_called e call)
+    ∣ Err (reply_of c e call)
 
 -- accepted, with the number, the connection and the entry as given; or refused with nothing changed
 unfoldable pub settled_of : Answer → ℕ → Conn → Entry → Conn → Entry → Replied

@@ -4,7 +4,7 @@
 ghost use Rattle.std.specs.Prelude.{◌≡◌};
 ghost use Rattle.halves.specs.Stream.{half_of};
 ghost use Rattle.streams.specs.Conn.{limited_to, with_count};
-ghost use Rattle.replies.specs.Replies.{next_of, settled_of, ruled_of, replied_of};
+ghost use Rattle.replies.specs.Replies.{next_of, made_of, replied_of};
 
 use answers::Answer;
 use calls::Call;
@@ -25,10 +25,8 @@ fn counted(c: Conn, ty: u64, new: u64) -> Conn
 {
     let s = halves::named(ty);
     let i = s.half / 2;
-    let mut limits = c.limits;
-    limits.counts[i] = new;
     let mut conn = c;
-    conn.limits = limits;
+    conn.limits.counts[i] = new;
     conn
 }
 
@@ -43,64 +41,52 @@ fn next_id(c: Conn, ty: u64) -> u64
     })
 }
 
-// An answer that leaves the connection and the entry as given if it accepts, and else nothing changed.
-fn settled(answer: Answer, number: u64, c: Conn, e: Entry, conn: Conn, entry: Entry) -> Replied
-    ensures { result ≡ settled_of answer number c e conn entry }
+// What a call hands out and makes of the connection and the entry, its stream or type as at a server; or the answer that refuses it: 101,
+// then 104, 105, 103, 102.
+#[tactic(auto, unfolding(crate::specs::Replies::made_of))]
+fn made(c: Conn, e: Entry, call: Call) -> Result<(u64, Conn, Entry), Answer>
+    ensures { result ≡ made_of c e call }
 {
-    let Answer::Accepted = answer else {
-        return Replied {
+    if !c.mark.is_open() {
+        return Err(Answer::Closed);
+    }
+    calls::reply(c, e, call)?;
+    match call {
+        Call::RaiseCredit { new } => {
+            let mut conn = c;
+            conn.limits.credit = new;
+            Ok((0, conn, e))
+        },
+        Call::RaiseStream { id: _, new } => Ok((0, c, Entry { credit: new, ..e })),
+        Call::RaiseCount { ty, new } => Ok((0, counted(c, ty, new), e)),
+        Call::OpenNext { ty } => {
+            let id = next_id(c, ty);
+            Ok((halves::seated(c.role, id), c.open_to(id, c.total), e))
+        },
+    }
+}
+
+// A call on a connection whose table fits. A refused one changes nothing.
+#[tactic(auto, unfolding(crate::specs::Replies::replied_of, crate::specs::Replies::made_of, crate::specs::Replies::ruled_of, crate::specs::Replies::settled_of))]
+pub fn judge(c: Conn, e: Entry, call: Call) -> Replied
+    ensures { result ≡ replied_of c e call }
+{
+    match made(c, e, calls::seated(c.role, call)) {
+        Ok((number, conn, entry)) => Replied {
+            called: Called {
+                answer: Answer::Accepted,
+                number,
+                conn,
+            },
+            entry,
+        },
+        Err(answer) => Replied {
             called: Called {
                 answer,
                 number: 0,
                 conn: c,
             },
             entry: e,
-        };
-    };
-    Replied {
-        called: Called {
-            answer: Answer::Accepted,
-            number,
-            conn,
-        },
-        entry,
-    }
-}
-
-// A call on an open connection, its stream or type as at a server.
-fn ruled(c: Conn, e: Entry, call: Call) -> Replied
-    ensures { result ≡ ruled_of c e call }
-{
-    let answer = calls::reply(c, e, call);
-    match call {
-        Call::RaiseCredit { new } => {
-            let mut conn = c;
-            conn.limits.credit = new;
-            settled(answer, 0, c, e, conn, e)
-        },
-        Call::RaiseStream { id: _, new } => {
-            let mut entry = e;
-            entry.credit = new;
-            settled(answer, 0, c, e, c, entry)
-        },
-        Call::RaiseCount { ty, new } => settled(answer, 0, c, e, counted(c, ty, new), e),
-        Call::OpenNext { ty } => {
-            let id = next_id(c, ty);
-            let role = c.role;
-            let number = halves::seated(role, id);
-            settled(answer, number, c, e, c.open_to(id, c.total), e)
         },
     }
-}
-
-// A call on a connection whose table fits: 101, then 104, 105, 103, 102.
-pub fn judge(c: Conn, e: Entry, call: Call) -> Replied
-    ensures { result ≡ replied_of c e call }
-{
-    let mark = c.mark;
-    if !mark.is_open() {
-        return settled(Answer::Closed, 0, c, e, c, e);
-    }
-    let role = c.role;
-    ruled(c, e, calls::seated(role, call))
 }

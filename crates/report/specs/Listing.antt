@@ -1,5 +1,5 @@
 -- What the listing shows of each frame that is taken, where it goes on, and its last line (docs/RULES.md, "The listing").
-use Rattle.std.specs.Prelude.{ℕ, Bool, List, [], ◌∷◌, ◌++◌, ltb, eqb}
+use Rattle.std.specs.Prelude.{ℕ, Bool, List, [], ◌∷◌, ◌++◌, ltb, eqb, Option, Some, None}
 use Rattle.answers.specs.Choice.{◌⇒◌∣◌}
 use Rattle.answers.specs.Answers.{number_of}
 use Rattle.answers.specs.declared.Answer.TheVariants.{ProtocolViolation}
@@ -10,8 +10,6 @@ use Rattle.steps.specs.declared.Shown.{Shown}
 use Rattle.steps.specs.declared.Shown.TheVariants.{Nothing, Typed, Whole}
 use Rattle.steps.specs.declared.TookFrame.{TookFrame}
 use Rattle.columns.specs.Row.{field_of, row_of, closed_text}
-use Rattle.columns.specs.declared.FrameType.{FrameType}
-use Rattle.columns.specs.declared.FrameType.TheVariants.{Is, Unread}
 
 -- "at most 65,527 bytes"
 unfoldable pub too_long : ℕ → Bool
@@ -24,10 +22,10 @@ heading_of n =
     ∣ 112 ∷ 108 ∷ 97 ∷ 99 ∷ 101 ∷ 32 ∷ 116 ∷ 121 ∷ 112 ∷ 101 ∷ 32 ∷ 99 ∷ 111 ∷ 100 ∷ 101 ∷ 32 ∷ 116 ∷ 111 ∷ 116 ∷ 97 ∷ 108 ∷ 10 ∷ []
 
 -- "its type ("-" if unreadable)"
-unfoldable pub type_shown : Shown → FrameType
-type_shown Nothing = Unread
-type_shown (Typed ty) = Is ty
-type_shown (Whole frame ty next) = Is ty
+unfoldable pub type_shown : Shown → Option ℕ
+type_shown Nothing = None
+type_shown (Typed ty) = Some ty
+type_shown (Whole frame ty next) = Some ty
 
 -- "byte place of the frame, its type, its answer, total after it"
 unfoldable pub taken_row_of : ℕ → TookFrame → List ℕ

@@ -4,12 +4,13 @@ use Prim.Native.Nat.{ℕ, suc, ◌+◌, ◌-◌, ◌*◌, ◌/◌, ◌%◌, ◌^
 use mathlib.Core.Path.{◌≡◌, sym, ◌∙◌, ap}
 use native.Mathlib.Omega.{arith}
 use native.Mathlib.Decide.{dec_le}
-use native.Mathlib.Nat.{zero-div, mod-lt, mod-eq_of_lt, div-eq_of_lt, div-mul-le_self, mul-add-mod_self_right, lt_of_le_of_lt, add-sub_of_le, one-mul, div_self, add-zero, sub-add_cancel, mod-le, div-add-mod', div-eq_of_lt-le}
+use native.Mathlib.Nat.{zero-add, zero-div, mod-lt, mod-eq_of_lt, div-eq_of_lt, div-mul-le_self, mul-add-mod_self_right, lt_of_le_of_lt, add-sub_of_le, one-mul, div_self, add-zero, sub-add_cancel, mod-le, div-add-mod', div-eq_of_lt-le}
 use lib.Pow.{pow_pos, pow_mono, pow-lt, shr-shr, field, mod-mod-pow, high, low}
 use lib.Count.{leading_top}
+use borrow.Author.Tests.{lt-ltb, le-leb}
 use lib.Bits.{bit_or, or_shr, or_step}
 use Rattle.ring.specs.Bits.{bit}
-use Rattle.ring.specs.Parts.{Without, Put}
+use Rattle.ring.specs.Parts.{without, Without, Put}
 
 pub bit_lt : (w i : ℕ) → bit w i < 2
 unfolding bit
@@ -52,14 +53,7 @@ one_shl b h = mod-eq_of_lt (omega (arith, pow-lt h)) ∙ one-mul (2 ^ b)
 pub shr_shl : (w k : ℕ) → w < 2 ^ 64 → w / 2 ^ k * 2 ^ k % 2 ^ 64 ≡ w / 2 ^ k * 2 ^ k
 shr_shl w k h = mod-eq_of_lt (lt_of_le_of_lt (div-mul-le_self w (2 ^ k)) h)
 
--- a part cleared, up to the top or below it
-pub without_top : (w lo : ℕ) → Without w lo 64 (w % 2 ^ lo)
-without_top w lo = record {
-  out = λ i a b. bit_past (w % 2 ^ lo) lo i (mod-lt w (pow_pos lo)) a;
-  low = λ i a. bit_low w lo i a;
-  high = λ i a b. absurd (omega arith);
-}
-
+-- a part cleared
 pub without_mid : (w lo hi : ℕ) → lo ≤ hi → Without w lo hi (w / 2 ^ hi * 2 ^ hi + w % 2 ^ lo)
 without_mid w lo hi h =
     let s : w % 2 ^ lo < 2 ^ hi = omega (arith, mod-lt w (pow_pos lo), pow_mono h) in
@@ -68,6 +62,17 @@ without_mid w lo hi h =
       low = λ i a. cat_low (w / 2 ^ hi) hi (w % 2 ^ lo) i s (omega arith) ∙ bit_low w lo i a;
       high = λ i a b. cat_high (w / 2 ^ hi) hi (w % 2 ^ lo) i s a ∙ sym (bit_shift w hi (i - hi)) ∙ ap (bit w) (add-sub_of_le a);
     }
+
+-- `without` is just that; up to the top nothing is above it
+pub without_in : (w lo hi : ℕ) → lo < hi → hi ≤ 64 → without w lo hi ≡ w / 2 ^ hi * 2 ^ hi + w % 2 ^ lo
+unfolding without
+without_in w lo hi a b = rw (lt-ltb lo hi a, le-leb hi 64 b)
+
+pub without_all : (w lo : ℕ) → lo < 64 → w < 2 ^ 64 → without w lo 64 ≡ w % 2 ^ lo
+without_all w lo a h = let z : w / 2 ^ 64 ≡ 0 = div-eq_of_lt h in without_in w lo 64 a (omega arith) ∙ rw z (zero-add (w % 2 ^ lo))
+
+pub without_is : (w lo hi : ℕ) → lo < hi → hi ≤ 64 → Without w lo hi (without w lo hi)
+without_is w lo hi a b = rw (without_in w lo hi a b) (without_mid w lo hi (omega arith))
 
 -- `|` bit by bit
 pub bit_or_law : (a b i : ℕ) → bit (bit_or a b) i ≡ max (bit a i) (bit b i)

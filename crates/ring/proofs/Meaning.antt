@@ -7,8 +7,9 @@ use native.Mathlib.Omega.{arith}
 use native.Mathlib.Decide.{ℕ_discrete}
 use Rattle.answers.specs.Choice.{◌⇒◌∣◌}
 use Rattle.ring.specs.declared.Run.{Run}
-use Rattle.ring.specs.declared.Run.TheVariants.{Span, Nothing}
 use Rattle.ring.specs.Runs.{lowest, next_run, Lowest, IsRun, RunOf}
+use Rattle.std.specs.Prelude.{Option, Some, None}
+use Rattle.ring.specs.Runs.{span}
 
 pub lowest_is : (P : ℕ → Bool) (k : ℕ) → Lowest P k (lowest P k)
 unfolding lowest
@@ -28,19 +29,19 @@ unfolding next_run
 run_is P zero = λ m h. absurd (omega arith)
 run_is P (suc k) = go (P k) refl (run_is P k)
   where
-    more : (r : Run) → P k ≡ false → RunOf P k r → RunOf P (suc k) r
-    more (Span h l) e i = record { below = omega (arith, i.below); ordered = i.ordered; all = i.all; between = λ m a b. last m a b (ℕ_discrete m k); stop = i.stop }
+    more : (r : Option Run) → P k ≡ false → RunOf P k r → RunOf P (suc k) r
+    more (Some r) e i = record { below = omega (arith, i.below); ordered = i.ordered; all = i.all; between = λ m a b. last m a b (ℕ_discrete m k); stop = i.stop }
       where
-        last : (m : ℕ) → h < m → m < suc k → Dec (m ≡ k) → P m ≡ false
+        last : (m : ℕ) → r.high < m → m < suc k → Dec (m ≡ k) → P m ≡ false
         last m a b (yes f) = ap P f ∙ e
         last m a b (no f) = i.between m a (omega arith)
-    more Nothing e i = λ m b. last m b (ℕ_discrete m k)
+    more None e i = λ m b. last m b (ℕ_discrete m k)
       where
         last : (m : ℕ) → m < suc k → Dec (m ≡ k) → P m ≡ false
         last m b (yes f) = ap P f ∙ e
         last m b (no f) = i m (omega arith)
 
-    go : (b : Bool) → P k ≡ b → RunOf P k (next_run P k) → RunOf P (suc k) (b ⇒ (Span k (lowest P k)) ∣ (next_run P k))
+    go : (b : Bool) → P k ≡ b → RunOf P k (next_run P k) → RunOf P (suc k) (b ⇒ (span k (lowest P k)) ∣ (next_run P k))
     go true e ih =
         let i = lowest_is P k in
         record { below = omega arith; ordered = i.within; all = λ m a b. last i m a b (ℕ_discrete m k); between = λ m a b. absurd (omega arith); stop = i.stop }

@@ -7,12 +7,13 @@ use mathlib.Core.List.{List}
 use native.Mathlib.Omega.{arith}
 use native.Mathlib.Decide.{dec_le, le_ind}
 use lib.Dec.{eqb}
-use Rattle.ring.specs.declared.Run.TheVariants.{Span, Nothing}
 use borrow.Author.Tests.{eq-eqb, ne_eqb, eqb-true, eqb-false}
 use Rattle.ring.specs.Bits.{bit_at, alike, marked}
 use Rattle.ring.specs.Runs.{lowest, next_run}
 use Rattle.ring.proofs.Marked.{marked_in, marked_above, marked_below, not_zero}
 use Rattle.ring.proofs.Meaning.{lowest_is}
+use Rattle.std.specs.Prelude.{None}
+use Rattle.ring.specs.Runs.{span}
 
 -- a run that is passed over, and one that is followed
 pub passed : (P : ℕ → Bool) (a b : ℕ) → a ≤ b → ((m : ℕ) → a ≤ m → m < b → P m ≡ false) → next_run P b ≡ next_run P a
@@ -28,7 +29,7 @@ unfolding lowest
 ends P zero f = refl
 ends P (suc a) f = let e : suc a - 1 ≡ a = omega arith in simp (rw e at (f (omega arith)))
 
-starts : (P : ℕ → Bool) (k : ℕ) → P k ≡ true → next_run P (suc k) ≡ Span k (lowest P k)
+starts : (P : ℕ → Bool) (k : ℕ) → P k ≡ true → next_run P (suc k) ≡ span k (lowest P k)
 unfolding next_run
 starts P k e = simp e
 
@@ -47,7 +48,7 @@ module _ (ws : List ℕ) (T at : ℕ) (inside : at ≤ T) where
   missing : (m : ℕ) → lowest (alike ws false) at ≤ m → m < at → marked ws T m ≡ false
   missing m a b = off m b (λ e. let z : bit_at ws m ≡ 0 = eqb-true _ _ ((lowest_is (alike ws false) at).all m a b) in absurd (omega arith))
 
-  pub run_none : lowest (alike ws false) at ≤ T - 8192 → next_run (marked ws T) at ≡ Nothing
+  pub run_none : lowest (alike ws false) at ≤ T - 8192 → next_run (marked ws T) at ≡ None
   unfolding next_run
   run_none h = passed (marked ws T) 0 at (omega arith) (λ m a b. go m b (dec_le (lowest (alike ws false) at) m))
     where
@@ -71,7 +72,7 @@ module _ (ws : List ℕ) (T at : ℕ) (inside : at ≤ T) where
           rw e (off _ (omega (arith, g.within)) (eqb-false _ _ (g.stop (omega arith))))
 
   pub run_some : T - 8192 < lowest (alike ws false) at
-      → next_run (marked ws T) at ≡ Span (lowest (alike ws false) at - 1) (max (T - 8192) (lowest (alike ws true) (lowest (alike ws false) at)))
+      → next_run (marked ws T) at ≡ span (lowest (alike ws false) at - 1) (max (T - 8192) (lowest (alike ws true) (lowest (alike ws false) at)))
   run_some h =
       let f = lowest_is (alike ws false) at in
       let s : suc (gap - 1) ≡ gap = omega arith in
@@ -80,7 +81,7 @@ module _ (ws : List ℕ) (T at : ℕ) (inside : at ≤ T) where
       passed (marked ws T) gap at f.within missing
       ∙ ap (next_run (marked ws T)) (sym s)
       ∙ starts (marked ws T) (gap - 1) (on (gap - 1) (omega arith) (omega (arith, f.within)) one)
-      ∙ ap (Span (gap - 1)) (rw r (follow (gap - 1) (omega arith) (omega (arith, f.within))))
+      ∙ ap (span (gap - 1)) (rw r (follow (gap - 1) (omega arith) (omega (arith, f.within))))
     where
       gap : ℕ
       gap = lowest (alike ws false) at
@@ -91,10 +92,10 @@ module _ (ws : List ℕ) (T below bottom from high : ℕ) (least : bottom ≡ T 
   start_is : next_run (marked ws T) below ≡ next_run (marked ws T) from
   start_is = passed (marked ws T) from below (omega arith) (λ m a b. marked_above ws T m (omega arith))
 
-  pub found_none : high ≤ bottom → next_run (marked ws T) below ≡ Nothing
+  pub found_none : high ≤ bottom → next_run (marked ws T) below ≡ None
   found_none h = start_is ∙ run_none ws T from (omega arith) (omega arith)
 
-  pub found_run : bottom < high → (low : ℕ) → max bottom low ≡ max bottom (lowest (alike ws true) high) → next_run (marked ws T) below ≡ Span (high - 1) (max bottom low)
+  pub found_run : bottom < high → (low : ℕ) → max bottom low ≡ max bottom (lowest (alike ws true) high) → next_run (marked ws T) below ≡ span (high - 1) (max bottom low)
   found_run h low e =
       let g : lowest (alike ws false) from ≡ high = omega arith in
       start_is ∙ rw (e, least) (rw g at (run_some ws T from (omega arith) (omega arith)))

@@ -1,8 +1,15 @@
 -- What is done to a word and found in a ring, bit by bit.
-use Rattle.std.specs.Prelude.{ℕ, ◌-◌, ◌≤◌, ◌<◌, ◌≡◌, Bool, true, false, List}
+use Rattle.std.specs.Prelude.{ℕ, ◌+◌, ◌-◌, ◌*◌, ◌/◌, ◌%◌, ◌^◌, ◌≤◌, ◌<◌, ◌≡◌, ◌&&◌, Bool, true, false, List, ltb, leb}
+use Rattle.answers.specs.Choice.{◌⇒◌∣◌}
 use Rattle.ring.specs.Bits.{bit, bit_at}
 
--- r is the word w without the bits from lo up to hi
+-- the word w without the bits from lo up to hi: what is above them and what is below; w itself where a word has no such bits
+unfoldable pub without : ℕ → ℕ → ℕ → ℕ
+without w lo hi =
+    ltb lo hi && leb hi 64 ⇒ w / 2 ^ hi * 2 ^ hi + w % 2 ^ lo
+    ∣ w
+
+-- the same by its bits: r is the word w without the bits from lo up to hi
 pub record Without (w lo hi r : ℕ) : Type 0 where
   pub out : (i : ℕ) → lo ≤ i → i < hi → bit r i ≡ 0
   pub low : (i : ℕ) → i < lo → bit r i ≡ bit w i

@@ -1,8 +1,15 @@
 -- Runs of numbers, docs/RULES.md, "Acknowledgement": from the highest number down, each as long as it can be.
-use Rattle.std.specs.Prelude.{ℕ, zero, suc, ◌-◌, ◌≤◌, ◌<◌, ◌≡◌, Bool, true, false, List, [], ◌∷◌}
+use Rattle.std.specs.Prelude.{ℕ, zero, suc, ◌-◌, ◌≤◌, ◌<◌, ◌≡◌, Bool, true, false, List, [], ◌∷◌, Option, Some, None}
 use Rattle.answers.specs.Choice.{◌⇒◌∣◌}
 use Rattle.ring.specs.declared.Run.{Run}
-use Rattle.ring.specs.declared.Run.TheVariants.{Span, Nothing}
+
+-- a run from its highest number down to its lowest
+abbrev pub run_of : ℕ → ℕ → Run
+run_of high low = record { high = high; low = low }
+
+-- the same where a run is looked for
+abbrev pub span : ℕ → ℕ → Option Run
+span high low = Some (run_of high low)
 
 -- the lowest number of the run of P that goes down from below k
 unfoldable pub lowest : (ℕ → Bool) → ℕ → ℕ
@@ -12,16 +19,16 @@ lowest P (suc k) =
     ∣ suc k
 
 -- the next run of P below k, as long as it can be
-unfoldable pub next_run : (ℕ → Bool) → ℕ → Run
-next_run P zero = Nothing
+unfoldable pub next_run : (ℕ → Bool) → ℕ → Option Run
+next_run P zero = None
 next_run P (suc k) =
-    P k ⇒ Span k (lowest P k)
+    P k ⇒ span k (lowest P k)
     ∣ next_run P k
 
 -- a run, and what comes after its lowest number
-unfoldable pub after_run : Run → (ℕ → List Run) → List Run
-after_run (Span high low) rest = Span high low ∷ rest low
-after_run Nothing rest = []
+unfoldable pub after_run : Option Run → (ℕ → List Run) → List Run
+after_run (Some r) rest = r ∷ rest r.low
+after_run None rest = []
 
 -- the first n runs of P below k, downwards
 unfoldable pub runs_down : ℕ → (ℕ → Bool) → ℕ → List Run
@@ -43,6 +50,6 @@ pub record IsRun (P : ℕ → Bool) (k high low : ℕ) : Type 0 where
   pub stop : 0 < low → P (low - 1) ≡ false
 
 -- and by none
-abbrev pub RunOf : (ℕ → Bool) → ℕ → Run → Type 0
-RunOf P k (Span high low) = IsRun P k high low
-RunOf P k Nothing = (m : ℕ) → m < k → P m ≡ false
+abbrev pub RunOf : (ℕ → Bool) → ℕ → Option Run → Type 0
+RunOf P k (Some r) = IsRun P k r.high r.low
+RunOf P k None = (m : ℕ) → m < k → P m ≡ false

@@ -3,17 +3,32 @@
 // a part of one that takes a record, and what it answers of words that are no record is still fixed by its contract.
 #![tactic(auto)]
 
-ghost use Rattle.std.specs.Prelude.{◌≡◌, ◌-◌, ◌*◌, ◌<◌, max, min};
+ghost use Rattle.std.specs.Prelude.{◌≡◌, ◌*◌, ◌≤◌, ◌<◌, ◌-◌, max};
 ghost use Rattle.ring.specs.Bits.{bit_at, alike, marked, unmarked};
-ghost use Rattle.ring.specs.declared.Run.TheVariants.{Span};
 ghost use Rattle.ring.specs.Runs.{lowest, next_run};
-ghost use Rattle.ring.specs.Parts.{Blank, Clean, Complement, Decides};
+ghost use Rattle.ring.specs.Parts.{Blank, Clean, Complement, Decides, without};
 
-// A run of marked numbers, from the highest down to the lowest, or none.
-#[derive(Drop)]
-pub enum Run {
-    Span { high: u64, low: u64 },
-    Nothing,
+// A run of marked numbers, from the highest down to the lowest.
+#[derive(Clone, Copy)]
+pub struct Run {
+    pub high: u64,
+    pub low: u64,
+}
+
+// The word w without the bits from lo up to hi; w itself where a word has no such bits. Public as a part of the crates that clear marks in their words.
+#[tactic(auto, unfolding(crate::specs::Parts::without))]
+pub fn without(w: u64, lo: u64, hi: u64) -> u64
+    ensures { result ≡ without w lo hi }
+{
+    if hi <= lo || 64 < hi {
+        return w;
+    }
+    let low = w % (1u64 << lo);
+    // no shift may go by all 64 bits of a word
+    if hi == 64 {
+        return low;
+    }
+    ((w >> hi) << hi) + low
 }
 
 // Whether the word w has no bit from s on.
@@ -25,6 +40,7 @@ fn blank(w: u64, s: u64) -> bool
 }
 
 // The bit of the number n. Public as a part of `records::check_of`, which asks for 120 with it, and of `records::test_of`, whose callers have asked before.
+#[tactic(auto, unfolding(crate::specs::Bits::bit_at, crate::specs::Bits::bit))]
 pub fn bit_at(words: &[u64; 128], n: u64) -> u64
     ensures { result ≡ bit_at words.now n }
 {
@@ -34,13 +50,12 @@ pub fn bit_at(words: &[u64; 128], n: u64) -> u64
 
 // Whether the words from `from` on have no bit. It does not stop at the first one that has, so that several words are looked at in one step.
 fn zeros(words: &[u64; 128], from: usize) -> bool
+    requires { from ≤ 128 }
     ensures { Decides (Clean words.now (64 * from)) result }
 {
     let mut all = 0;
-    let mut k = from;
-    while k < 128 {
-        all |= words[k];
-        k += 1;
+    for &w in &words[from..] {
+        all |= w;
     }
     blank(all, 0)
 }
@@ -60,43 +75,11 @@ pub fn is_clean(words: &[u64; 128], top: u64) -> bool
     zeros(words, k + 1)
 }
 
-// The larger of two. Public as a part of `clashes::clash` and of `holding`'s calls.
-pub fn larger(a: u64, b: u64) -> u64
-    ensures { result ≡ max a b }
-{
-    if a < b { b } else { a }
-}
-
-// The smaller of two. Public as a part of `clashes::clash`.
-pub fn smaller(a: u64, b: u64) -> u64
-    ensures { result ≡ min a b }
-{
-    if a < b { a } else { b }
-}
-
-// The lowest number that the window below `top` holds.
-fn bottom_of(top: u64) -> u64
-    ensures { result ≡ top - 8192 }
-{
-    larger(top, 8192) - 8192
-}
-
 // Each bit the other way.
 fn complement(word: u64) -> u64
     ensures { Complement word result }
 {
     !word
-}
-
-// The run from below `high` down to `low`.
-fn span(high: u64, low: u64) -> Run
-    requires { 0 < high }
-    ensures { result ≡ Span (high - 1) low }
-{
-    Run::Span {
-        high: high - 1,
-        low,
-    }
 }
 
 // Where a stretch ends that goes down from below `end`: of numbers that came, or of numbers that are missing. One that goes past `bottom` ends anywhere there.
@@ -109,7 +92,7 @@ fn end_of(words: &[u64; 128], mut end: u64, bottom: u64, came: bool) -> u64
         // With the first number at the top, leading zeros are numbers that are missing, and the complement's are numbers that came.
         let others = (if came { complement(word) } else { word }) << (63 - first % 64);
         if others != 0 {
-            return end - u64::leading_zeros(others) as u64;
+            return end - u64::from(others.leading_zeros());
         }
         end = first / 64 * 64;
     }
@@ -118,13 +101,16 @@ fn end_of(words: &[u64; 128], mut end: u64, bottom: u64, came: bool) -> u64
 
 // The next run of the numbers below `top` that are marked, below `below` and as long as it can be: from the end of the missing ones down to its own.
 // Public as a part of `records::Record::next_run` and of `acks::write`, which have each asked for 120 once before, not for each run.
-pub fn next_run(words: &[u64; 128], top: u64, below: u64) -> Run
+pub fn next_run(words: &[u64; 128], top: u64, below: u64) -> Option<Run>
     ensures { result ≡ next_run (marked words.now top) below }
 {
-    let bottom = bottom_of(top);
-    let high = end_of(words, smaller(below, top), bottom, false);
+    let bottom = top.saturating_sub(8192);
+    let high = end_of(words, below.min(top), bottom, false);
     if high <= bottom {
-        return Run::Nothing;
+        return None;
     }
-    span(high, larger(bottom, end_of(words, high, bottom, true)))
+    Some(Run {
+        high: high - 1,
+        low: bottom.max(end_of(words, high, bottom, true)),
+    })
 }

@@ -12,11 +12,8 @@ use Rattle.answers.specs.declared.Answer.TheVariants.{Unwritable}
 use Rattle.answers.proofs.Distinct.{impossible}
 use Rattle.wire.specs.Number.{Stands}
 use Rattle.wire.specs.Writing.{Bytes, writes, Written}
-use Rattle.wire.specs.declared.Wrote.{Wrote}
-use Rattle.wire.specs.declared.Wrote.TheVariants.{To, Refused}
 use Rattle.wire.proofs.Writing.{never, only_room, past, bytes_written}
 use Rattle.frames.specs.declared.Frame.{Frame}
-use Rattle.frames.specs.declared.Reading.TheVariants.{Got}
 use Rattle.contents.specs.Parts.{parts_of}
 use Rattle.contents.specs.Content.{Content, contents}
 use Rattle.contents.specs.Taken.{takes}
@@ -25,9 +22,12 @@ use Rattle.sizes.proofs.Spelling.{writable, unwritable}
 use Rattle.roundtrip.specs.Readable.{ReadsAs, Readable}
 use Rattle.roundtrip.proofs.Back.{read_back}
 use Rattle.roundtrip.proofs.Readers.{read_taken}
+use Rattle.std.specs.Prelude.{Result, Ok, Err}
+use Rattle.frames.specs.Fields.{read_as}
+use Rattle.answers.specs.declared.Answer.{Answer}
 
 -- what is accepted can be written, and its bytes were
-accepted : (c : Content) (out : List ℕ) (at : ℕ) {r : Wrote} {after : List ℕ} → (r, after) ≡ writes (frame_draft c) out at → {n : ℕ} → r ≡ To n
+accepted : (c : Content) (out : List ℕ) (at : ℕ) {r : Result ℕ Answer} {after : List ℕ} → (r, after) ≡ writes (frame_draft c) out at → {n : ℕ} → r ≡ Ok n
     → (takes c ≡ true) × Written (spelled_frame c) out at n after
 unfolding frame_draft
 accepted c out at e p =
@@ -36,10 +36,10 @@ accepted c out at e p =
 
 -- 109 comes before 108: a frame that cannot be written answers 109 whatever the output, and no other frame does
 module _ (c : Content) (out : List ℕ) (at : ℕ) where
-  refuses : takes c ≡ false → (writes (frame_draft c) out at).0 ≡ Refused Unwritable
+  refuses : takes c ≡ false → (writes (frame_draft c) out at).0 ≡ Err Unwritable
   refuses e = rw (unwritable c e, never out at Unwritable)
 
-  only_unwritable : (writes (frame_draft c) out at).0 ≡ Refused Unwritable → takes c ≡ false
+  only_unwritable : (writes (frame_draft c) out at).0 ≡ Err Unwritable → takes c ≡ false
   only_unwritable e = go (takes c) refl
     where
       go : (b : Bool) → takes c ≡ b → takes c ≡ false
@@ -49,11 +49,11 @@ module _ (c : Content) (out : List ℕ) (at : ℕ) where
           impossible cc
 
 -- read after write: the frame at the place of writing says the same, and ends where the writing ended
-pub written : (s out : List ℕ) (f : Frame) (at : ℕ) {r : Wrote} {after : List ℕ} → (r, after) ≡ writes (frame_draft (contents s f)) out at → {n : ℕ} → r ≡ To n → ReadsAs after at n (contents s f)
+pub written : (s out : List ℕ) (f : Frame) (at : ℕ) {r : Result ℕ Answer} {after : List ℕ} → (r, after) ≡ writes (frame_draft (contents s f)) out at → {n : ℕ} → r ≡ Ok n → ReadsAs after at n (contents s f)
 written s out f at {r} {after} e {n} p =
     let a = accepted (contents s f) out at e p in
     let b = read_back s after f at a.0 a.1.stands in
-    (b.0, (parts_of f).ty, b.1 ∙ ap (Got b.0 (parts_of f).ty) (sym a.1.ends), b.2)
+    (b.0, (parts_of f).ty, b.1 ∙ ap (read_as b.0 (parts_of f).ty) (sym a.1.ends), b.2)
 
 -- a list stands in itself
 itself : (l : List ℕ) → Stands l 0 l
@@ -70,7 +70,7 @@ pub no_reading : (s : List ℕ) (f : Frame) → takes (contents s f) ≡ false �
 no_reading s f e r = true≢false (sym (subst (λ (c : Content). takes c ≡ true) r.6 (read_taken r.0 r.1 r.5)) ∙ e)
 
 pub exact : (s : List ℕ) (f : Frame) (out : List ℕ) (at : ℕ)
-    → (((writes (frame_draft (contents s f)) out at).0 ≡ Refused Unwritable) → Readable (contents s f) → ⊥) × ((Readable (contents s f) → ⊥) → (writes (frame_draft (contents s f)) out at).0 ≡ Refused Unwritable)
+    → (((writes (frame_draft (contents s f)) out at).0 ≡ Err Unwritable) → Readable (contents s f) → ⊥) × ((Readable (contents s f) → ⊥) → (writes (frame_draft (contents s f)) out at).0 ≡ Err Unwritable)
 exact s f out at = (
   (λ e. no_reading s f (only_unwritable (contents s f) out at e)),
   (λ none. refuses (contents s f) out at (go (takes (contents s f)) refl none)),

@@ -11,8 +11,7 @@ use lib.ListN.{length, get_or}
 use Rattle.answers.specs.Choice.{◌⇒◌∣◌}
 use Rattle.answers.proofs.Choice.{holds, below_or_not}
 use Rattle.answers.proofs.Distinct.{impossible}
-use Rattle.wire.specs.Number.{number_at}
-use Rattle.wire.specs.declared.Number.TheVariants.{Is}
+use Rattle.wire.specs.Number.{number_at, with_number}
 use Rattle.wire.proofs.Sound as number
 use Rattle.row.specs.Row.{in_range}
 use Rattle.ranges.specs.Ranges.{ranges_at}
@@ -20,18 +19,15 @@ use Rattle.ranges.specs.Listed.{listed, fits}
 use Rattle.ranges.proofs.Listed.{read_fits}
 use Rattle.layouts.specs.Layout.{layouts, layout_of, known}
 use Rattle.fields.specs.Faults.{above_of, fault_of}
-use Rattle.layouts.specs.Body.{optional_at, numbers_at, body_at, sized_at, counted_at, remainder_at, identity_at, ranged_at}
-use Rattle.frames.specs.Fields.{frame_of}
+use Rattle.layouts.specs.Body.{with_body, optional_at, numbers_at, body_at, sized_at, counted_at, remainder_at, identity_at, ranged_at, are, holds_at}
+use Rattle.frames.specs.Fields.{frame_of, read_as}
 use Rattle.layouts.specs.declared.Numbers.{Numbers}
-use Rattle.layouts.specs.declared.Numbers.TheVariants.{Are, CutShort}
 use Rattle.layouts.specs.declared.Tail.{Tail}
 use Rattle.layouts.specs.declared.Tail.TheVariants.{Nothing, Counted, Remainder, Eight, Identity, Ranges}
 use Rattle.layouts.specs.declared.Body.{Body}
-use Rattle.layouts.specs.declared.Body.TheVariants as Body'
 use Rattle.fields.specs.declared.Parts.{Parts}
 use Rattle.frames.specs.declared.Frame.{Frame}
 use Rattle.frames.specs.declared.Frame.TheVariants.{Stream}
-use Rattle.frames.specs.declared.Reading.TheVariants.{Got}
 use Rattle.frames.specs.Reading.{any_frame_at}
 use Rattle.frames.specs.Sound.{FieldsRead}
 use Rattle.frames.proofs.Sound.{fields_got, any_got}
@@ -43,6 +39,7 @@ use Rattle.contents.specs.Parts.{stream_type, way_type, holding_parts, parts_of}
 use Rattle.contents.specs.Content.{body_of, token_inside, inside_of, content_of, contents}
 use Rattle.contents.specs.Taken.{fitting, takes}
 use Rattle.contents.specs.Again.{first, at_in, len_in, token_in, again}
+use Rattle.std.specs.Prelude.{Option, Some, None}
 
 -- a line for each number from k up to e
 data Lines (Q : ℕ → Type 0) : ℕ → ℕ → Type 0 where
@@ -120,12 +117,12 @@ record OneRead (s : List ℕ) (at : ℕ) (there : Bool) (v next : ℕ) : Type 0 
   kept : (there ⇒ v ∣ 0) ≡ v
   within : at ≤ length s → next ≤ length s
 
-one_read : (s : List ℕ) (at : ℕ) (there : Bool) {v next : ℕ} → optional_at s at there ≡ Is v next → OneRead s at there v next
+one_read : (s : List ℕ) (at : ℕ) (there : Bool) {v next : ℕ} → optional_at s at there ≡ Some (v, next) → OneRead s at there v next
 unfolding optional_at
 one_read s at true e = let r = number.sound s at e in record { low = r.low; kept = refl; within = λ h. r.within }
 one_read s at false {v} {next} e =
-    let z : 0 ≡ v = cc in
-    let n : at ≡ next = cc in
+    let z : 0 ≡ v = ap (λ (m : Option (ℕ × ℕ)). with_number m 0 (λ v next. v)) e in
+    let n : at ≡ next = ap (λ (m : Option (ℕ × ℕ)). with_number m 0 (λ v next. next)) e in
     record { low = omega arith; kept = z; within = λ h. omega arith }
 
 -- four numbers that were read
@@ -141,17 +138,17 @@ record FourRead (s : List ℕ) (at n a b c d next : ℕ) : Type 0 where
   within : at ≤ length s → next ≤ length s
 
 module _ (s : List ℕ) (at n : ℕ) where
-  abbrev IfAre : Numbers → Type 0
-  IfAre (Are a b c d next) = FourRead s at n a b c d next
-  IfAre CutShort = Unit
+  abbrev IfAre : Option Numbers → Type 0
+  IfAre (Some n') = FourRead s at n n'.a n'.b n'.c n'.d n'.next
+  IfAre None = Unit
 
   all_read : IfAre (numbers_at s at n)
   unfolding numbers_at
   all_read =
-      number.with_number_law IfAre (optional_at s at (ltb 0 n)) CutShort _ tt (λ a p e.
-      number.with_number_law IfAre (optional_at s p (ltb 1 n)) CutShort _ tt (λ b q f.
-      number.with_number_law IfAre (optional_at s q (ltb 2 n)) CutShort _ tt (λ c r g.
-      number.with_number_law IfAre (optional_at s r (ltb 3 n)) CutShort _ tt (λ d next h.
+      number.with_number_law IfAre (optional_at s at (ltb 0 n)) None _ tt (λ a p e.
+      number.with_number_law IfAre (optional_at s p (ltb 1 n)) None _ tt (λ b q f.
+      number.with_number_law IfAre (optional_at s q (ltb 2 n)) None _ tt (λ c r g.
+      number.with_number_law IfAre (optional_at s r (ltb 3 n)) None _ tt (λ d next h.
       let i = one_read s at (ltb 0 n) e in
       let j = one_read s p (ltb 1 n) f in
       let k = one_read s q (ltb 2 n) g in
@@ -168,7 +165,7 @@ module _ (s : List ℕ) (at n : ℕ) where
         within = λ w. l.within (k.within (j.within (i.within w)));
       }))))
 
-  four_read : {a b c d next : ℕ} → numbers_at s at n ≡ Are a b c d next → FourRead s at n a b c d next
+  four_read : {a b c d next : ℕ} → numbers_at s at n ≡ are a b c d next → FourRead s at n a b c d next
   four_read e = subst IfAre e all_read
 
 -- a body that was read: its places are those that its tail has, they lie inside, a length on the wire is in range, and its runs fit
@@ -180,23 +177,31 @@ record BodyRead (s : List ℕ) (tail : Tail) (p : Parts) : Type 0 where
   low : Low tail p.len → p.len < 2 ^ 62
   runs : fitting tail p.a p.c p.d (body_of s tail p) ≡ true
 
-wrong : {at len token next : ℕ} → Body'.Wrong ≡ Body'.Is at len token next → ⊥
+-- two bodies that are one have the same places
+held : {at len token next at₁ len₁ token₁ next₁ : ℕ} → holds_at at len token next ≡ holds_at at₁ len₁ token₁ next₁ → (at ≡ at₁) × (len ≡ len₁) × (token ≡ token₁)
+held e = (
+  ap (λ (b : Option Body). with_body b 0 (λ at len token next. at)) e,
+  ap (λ (b : Option Body). with_body b 0 (λ at len token next. len)) e,
+  ap (λ (b : Option Body). with_body b 0 (λ at len token next. token)) e,
+)
+
+wrong : {at len token next : ℕ} → None ≡ holds_at at len token next → ⊥
 wrong e = impossible cc
 
 module _ (s : List ℕ) (q : ℕ) (p : Parts) (next : ℕ) where
-  abbrev found : Body
-  found = Body'.Is p.at p.len p.token next
+  abbrev found : Option Body
+  found = holds_at p.at p.len p.token next
 
   sized : (at k : ℕ) → sized_at (length s) at k ≡ found → (p.at ≡ at) × (p.len ≡ k) × (p.token ≡ 0) × (at + k ≤ length s)
   unfolding sized_at
   sized at k =
-      holds (λ (b : Body). b ≡ found → (p.at ≡ at) × (p.len ≡ k) × (p.token ≡ 0) × (at + k ≤ length s)) (ltb (length s) (at + k)) Body'.Wrong _
-      (λ e f. absurd (wrong f)) (λ e f. (cc, cc, cc, ltb-false (length s) (at + k) e))
+      holds (λ (b : Option Body). b ≡ found → (p.at ≡ at) × (p.len ≡ k) × (p.token ≡ 0) × (at + k ≤ length s)) (ltb (length s) (at + k)) None _
+      (λ e f. absurd (wrong f)) (λ e f. let h = held f in (sym h.0, sym h.1, sym h.2, ltb-false (length s) (at + k) e))
 
   counted : counted_at s q ≡ found → BodyRead s Counted p
   unfolding counted_at
   counted =
-      number.with_number_law (λ (b : Body). b ≡ found → BodyRead s Counted p) (number_at s q) Body'.Wrong _ (λ f. absurd (wrong f)) (λ k at e f.
+      number.with_number_law (λ (b : Option Body). b ≡ found → BodyRead s Counted p) (number_at s q) None _ (λ f. absurd (wrong f)) (λ k at e f.
       let r = sized at k f in
       record {
         at_kept = refl;
@@ -210,15 +215,13 @@ module _ (s : List ℕ) (q : ℕ) (p : Parts) (next : ℕ) where
   remainder : remainder_at (length s) q ≡ found → BodyRead s Remainder p
   unfolding remainder_at
   remainder =
-      holds (λ (b : Body). b ≡ found → BodyRead s Remainder p) (ltb (length s) q) Body'.Wrong _ (λ e f. absurd (wrong f)) (λ e f.
-      let i : p.at ≡ q = cc in
-      let j : p.len ≡ length s - q = cc in
-      let k : 0 ≡ p.token = cc in
+      holds (λ (b : Option Body). b ≡ found → BodyRead s Remainder p) (ltb (length s) q) None _ (λ e f. absurd (wrong f)) (λ e f.
+      let h = held f in
       record {
         at_kept = refl;
         len_kept = refl;
-        token_kept = k;
-        inside = wholly (length s) Remainder p (omega (arith, i, j, ltb-false (length s) q e)) refl;
+        token_kept = h.2;
+        inside = wholly (length s) Remainder p (omega (arith, h.0, h.1, ltb-false (length s) q e)) refl;
         low = λ h. h;
         runs = refl;
       })
@@ -238,16 +241,14 @@ module _ (s : List ℕ) (q : ℕ) (p : Parts) (next : ℕ) where
   identity : identity_at s q ≡ found → BodyRead s Identity p
   unfolding identity_at
   identity =
-      holds (λ (b : Body). b ≡ found → BodyRead s Identity p) (ltb (length s) (q + 1 + get_or s q 0 + 16)) Body'.Wrong _ (λ e f. absurd (wrong f)) (λ e f.
-      let i : p.at ≡ q + 1 = cc in
-      let j : p.len ≡ get_or s q 0 = cc in
-      let k : p.token ≡ q + 1 + get_or s q 0 = cc in
+      holds (λ (b : Option Body). b ≡ found → BodyRead s Identity p) (ltb (length s) (q + 1 + get_or s q 0 + 16)) None _ (λ e f. absurd (wrong f)) (λ e f.
+      let b = held f in
       let h = ltb-false (length s) (q + 1 + get_or s q 0 + 16) e in
       record {
         at_kept = refl;
         len_kept = refl;
         token_kept = refl;
-        inside = wholly (length s) Identity p (omega (arith, i, j, h)) (le-leb (p.token + 16) (length s) (omega (arith, k, h)));
+        inside = wholly (length s) Identity p (omega (arith, b.0, b.1, h)) (le-leb (p.token + 16) (length s) (omega (arith, b.2, h)));
         low = λ l. l;
         runs = refl;
       })
@@ -255,26 +256,22 @@ module _ (s : List ℕ) (q : ℕ) (p : Parts) (next : ℕ) where
   ranged : q ≤ length s → ranged_at s q p.a p.c p.d ≡ found → BodyRead s Ranges p
   unfolding ranged_at
   ranged w =
-      holds (λ (b : Body). b ≡ found → BodyRead s Ranges p) (ltb p.a p.d) Body'.Wrong _ (λ e f. absurd (wrong f)) (λ e.
-      with_ranges_law (λ (b : Body). b ≡ found → BodyRead s Ranges p) (ranges_at s p.c q (p.a - p.d)) Body'.Wrong _ (λ f. absurd (wrong f)) (λ m g f.
-      let i : q ≡ p.at = cc in
-      let j : 0 ≡ p.len = cc in
-      let k : 0 ≡ p.token = cc in
+      holds (λ (b : Option Body). b ≡ found → BodyRead s Ranges p) (ltb p.a p.d) None _ (λ e f. absurd (wrong f)) (λ e.
+      with_ranges_law (λ (b : Option Body). b ≡ found → BodyRead s Ranges p) (ranges_at s p.c q (p.a - p.d)) None _ (λ f. absurd (wrong f)) (λ m g f.
+      let b = held f in
       record {
         at_kept = refl;
-        len_kept = j;
-        token_kept = k;
-        inside = wholly (length s) Ranges p (omega (arith, i, j)) refl;
-        low = λ h. omega (arith, j);
-        runs = rw (le-leb p.d p.a (ltb-false p.a p.d e)) (subst (λ (at : ℕ). fits (p.a - p.d) p.c (listed s at (2 * p.c)) ≡ true) i (read_fits s p.c q (p.a - p.d) g));
+        len_kept = b.1;
+        token_kept = b.2;
+        inside = wholly (length s) Ranges p (omega (arith, b.0, b.1)) refl;
+        low = λ h. omega (arith, b.1);
+        runs = rw (le-leb p.d p.a (ltb-false p.a p.d e)) (subst (λ (at : ℕ). fits (p.a - p.d) p.c (listed s at (2 * p.c)) ≡ true) b.0 (read_fits s p.c q (p.a - p.d) g));
       }))
 
-body_read : (s : List ℕ) (q : ℕ) (tail : Tail) (p : Parts) (next : ℕ) → q ≤ length s → body_at s q tail p.a p.c p.d ≡ Body'.Is p.at p.len p.token next → BodyRead s tail p
+body_read : (s : List ℕ) (q : ℕ) (tail : Tail) (p : Parts) (next : ℕ) → q ≤ length s → body_at s q tail p.a p.c p.d ≡ holds_at p.at p.len p.token next → BodyRead s tail p
 body_read s q Nothing p next w e =
-    let i : 0 ≡ p.at = cc in
-    let j : 0 ≡ p.len = cc in
-    let k : 0 ≡ p.token = cc in
-    record { at_kept = i; len_kept = j; token_kept = k; inside = wholly (length s) Nothing p (omega (arith, i, j)) refl; low = λ h. omega (arith, j); runs = refl }
+    let b = held e in
+    record { at_kept = b.0; len_kept = b.1; token_kept = b.2; inside = wholly (length s) Nothing p (omega (arith, b.0, b.1)) refl; low = λ h. omega (arith, b.1); runs = refl }
 body_read s q Counted p next w e = counted s q p next e
 body_read s q Remainder p next w e = remainder s q p next e
 body_read s q Eight p next w e = eight s q p next e
@@ -377,13 +374,13 @@ module _ (t : List ℕ) (at ty : ℕ) (f : Frame) (n : ℕ) (w : at ≤ length t
       either false = plain
 
 -- every frame that was read can be written
-pub read_taken : (t : List ℕ) (at : ℕ) {f : Frame} {ty n : ℕ} → any_frame_at t at ≡ Got f ty n → takes (contents t f) ≡ true
+pub read_taken : (t : List ℕ) (at : ℕ) {f : Frame} {ty n : ℕ} → any_frame_at t at ≡ read_as f ty n → takes (contents t f) ≡ true
 read_taken t at {f} {ty} {n} e =
     let g = any_got t at e in
     fields_taken t g.0 ty f n (number.sound t at g.1).within g.3 (fields_got t g.0 ty g.4)
 
 -- so the end of a STREAM frame that was read is not above 2^62-1
-pub stream_end : (t : List ℕ) (at : ℕ) {id offset place len ty n : ℕ} {fin : Bool} → any_frame_at t at ≡ Got (Stream id offset fin place len) ty n → offset + len ≤ 2 ^ 62 - 1
+pub stream_end : (t : List ℕ) (at : ℕ) {id offset place len ty n : ℕ} {fin : Bool} → any_frame_at t at ≡ read_as (Stream id offset fin place len) ty n → offset + len ≤ 2 ^ 62 - 1
 unfolding takes fault_of
 stream_end t at {id} {offset} {place} {len} {ty} {n} {fin} e =
     let f = contents t (Stream id offset fin place len) in

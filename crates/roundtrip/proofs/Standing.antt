@@ -11,16 +11,15 @@ use lib.Dec.{ltb}
 use lib.ListN.{length, take, length-append}
 use lib.Seq.{slice, length-slice, get_or-drop, get_or-take, ext_get_or}
 use Rattle.wire.specs.Number.{Stands, bytes_of}
-use Rattle.wire.specs.declared.Number.TheVariants.{Is}
 use Rattle.wire.proofs.Standing.{left, right}
 use Rattle.wire.proofs.Back.{back}
 use Rattle.wire.proofs.Exit.{length_bytes}
 use Rattle.row.specs.Row.{in_range, bytes_all}
-use Rattle.layouts.specs.Body.{optional_at, numbers_at}
-use Rattle.layouts.specs.declared.Numbers.TheVariants.{Are}
+use Rattle.layouts.specs.Body.{optional_at, numbers_at, are}
 use Rattle.sizes.specs.Spelled.{four_bytes}
 use Rattle.contents.specs.Again.{first}
 use Rattle.contents.proofs.Ones.{four_in_range}
+use Rattle.std.specs.Prelude.{Some}
 
 pub slice_stands : (s : List ℕ) (at n : ℕ) (l : List ℕ) → length l ≡ n → Stands s at l → slice at (at + n) s ≡ l
 slice_stands s at n l e h =
@@ -50,13 +49,13 @@ one_by_one (suc (suc (suc (suc n)))) a b c d =
     none_taken zero = refl
     none_taken (suc k) = refl
 
-optional_back : (s : List ℕ) (at : ℕ) (there : Bool) (v : ℕ) → v < 2 ^ 62 → Stands s at (bytes_if there v) → (i n : ℕ) → ltb i n ≡ there → optional_at s at there ≡ Is (first i n v) (at + length (bytes_if there v))
+optional_back : (s : List ℕ) (at : ℕ) (there : Bool) (v : ℕ) → v < 2 ^ 62 → Stands s at (bytes_if there v) → (i n : ℕ) → ltb i n ≡ there → optional_at s at there ≡ Some (first i n v, at + length (bytes_if there v))
 unfolding optional_at
 optional_back s at true v h st i n e = rw (e, length_bytes v) (back s at v h st)
 optional_back s at false v h st i n e = rw (e, add-zero)
 
 pub numbers_back : (s : List ℕ) (at n a b c d : ℕ) → in_range (a ∷ b ∷ c ∷ d ∷ []) ≡ true → Stands s at (four_bytes n a b c d)
-    → numbers_at s at n ≡ Are (first 0 n a) (first 1 n b) (first 2 n c) (first 3 n d) (at + length (four_bytes n a b c d))
+    → numbers_at s at n ≡ are (first 0 n a) (first 1 n b) (first 2 n c) (first 3 n d) (at + length (four_bytes n a b c d))
 unfolding numbers_at
 numbers_back s at n a b c d r inside =
     let A = bytes_if (ltb 0 n) a in
@@ -72,4 +71,4 @@ numbers_back s at n a b c d r inside =
     let oc = optional_back s (at + length A + length B) (ltb 2 n) c low.2 (left C D sc) 2 n refl in
     let od = optional_back s (at + length A + length B + length C) (ltb 3 n) d low.3 (right C D sc) 3 n refl in
     let e : at + length A + length B + length C + length D ≡ at + length (A ++ (B ++ (C ++ D))) = omega (arith, length-append A (B ++ (C ++ D)), length-append B (C ++ D), length-append C D) in
-    rw (one_by_one n a b c d, oa, ob, oc, od) (ap (Are (first 0 n a) (first 1 n b) (first 2 n c) (first 3 n d)) e)
+    rw (one_by_one n a b c d, oa, ob, oc, od) (ap (are (first 0 n a) (first 1 n b) (first 2 n c) (first 3 n d)) e)

@@ -12,14 +12,13 @@ use lib.ListN.{length, take, length-append}
 use Rattle.answers.specs.declared.Answer.TheVariants.{Unwritable}
 use Rattle.wire.specs.Number.{number_at, bytes_of, size_of, Stands}
 use Rattle.wire.specs.Writing.{Bytes, Never, writes, Written}
-use Rattle.wire.specs.declared.Number.TheVariants.{Is}
-use Rattle.wire.specs.declared.Wrote.{Wrote}
-use Rattle.wire.specs.declared.Wrote.TheVariants.{To}
 use Rattle.wire.proofs.Standing.{left, right}
 use Rattle.wire.proofs.Back.{back}
 use Rattle.wire.proofs.Writing.{past, bytes_written}
 use Rattle.wire.proofs.Exit.{length_bytes, size_bounds}
 use Rattle.row.specs.Row.{in_range, size_all, bytes_all, row_draft, ReadAs}
+use Rattle.std.specs.Prelude.{Some, Result, Ok}
+use Rattle.answers.specs.declared.Answer.{Answer}
 
 pub length_all : (vs : List ℕ) → length (bytes_all vs) ≡ size_all vs
 unfolding bytes_all size_all
@@ -43,7 +42,7 @@ range_take (suc n) (v ∷ vs) r =
 
 -- the first number of a row reads back, and the rest stands after it
 pub peel : (s : List ℕ) (at v : ℕ) (vs : List ℕ) → in_range (v ∷ vs) ≡ true → Stands s at (bytes_all (v ∷ vs))
-    → (number_at s at ≡ Is v (at + size_of v)) × (in_range vs ≡ true) × Stands s (at + size_of v) (bytes_all vs)
+    → (number_at s at ≡ Some (v, at + size_of v)) × (in_range vs ≡ true) × Stands s (at + size_of v) (bytes_all vs)
 unfolding bytes_all in_range
 peel s at v vs r st =
     let b = (and-eq-true_iff (leb v (2 ^ 62 - 1)) (in_range vs)).0 r in (
@@ -70,7 +69,7 @@ module _ (vs : List ℕ) where
   unfolding row_draft
   out_of_range h = rw h
 
-module _ (vs out : List ℕ) (at : ℕ) {r : Wrote} {after : List ℕ} (e : (r, after) ≡ writes (row_draft vs) out at) {n : ℕ} (p : r ≡ To n) where
+module _ (vs out : List ℕ) (at : ℕ) {r : Result ℕ Answer} {after : List ℕ} (e : (r, after) ≡ writes (row_draft vs) out at) {n : ℕ} (p : r ≡ Ok n) where
   -- what is accepted is in range, and its bytes were written
   pub accepted : (in_range vs ≡ true) × Written (bytes_all vs) out at n after
   unfolding row_draft

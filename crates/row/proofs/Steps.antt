@@ -15,12 +15,11 @@ use lib.Seq.{sets, drop-cons, drop-length}
 use Rattle.answers.specs.declared.Answer.{Answer}
 use Rattle.wire.specs.Number.{bytes_of, size_of}
 use Rattle.wire.specs.Writing.{writes, number_draft}
-use Rattle.wire.specs.declared.Wrote.{Wrote}
-use Rattle.wire.specs.declared.Wrote.TheVariants.{To, Refused}
 use Rattle.wire.proofs.Standing.{sets_append}
 use Rattle.wire.proofs.Writing.{same_length}
 use Rattle.wire.proofs.Exit.{length_bytes, unrefused, accepted}
 use Rattle.row.specs.Row.{in_range, size_all, bytes_all}
+use Rattle.std.specs.Prelude.{Result, Ok, Err}
 
 -- two numbers joined are in range exactly if both are
 or_range : (a b : ℕ) → leb (bit_or a b) (2 ^ 62 - 1) ≡ (leb a (2 ^ 62 - 1) && leb b (2 ^ 62 - 1))
@@ -76,11 +75,11 @@ module _ (out₀ : List ℕ) (at : ℕ) (vs out : List ℕ) (place i : ℕ) (l :
   fits = omega (arith, length_bytes (get_or vs i 0), size_step vs i h, l.size, l.long, l.room)
 
   -- the next number, written: it is not refused, and leaves one number less
-  module _ {r : Wrote} {after : List ℕ} (e : (r, after) ≡ writes (number_draft (get_or vs i 0)) out place) where
-    pub never_refused : {a : Answer} → r ≡ Refused a → ⊥
+  module _ {r : Result ℕ Answer} {after : List ℕ} (e : (r, after) ≡ writes (number_draft (get_or vs i 0)) out place) where
+    pub never_refused : {a : Answer} → r ≡ Err a → ⊥
     never_refused = unrefused (get_or vs i 0) out place e low fits
 
-    pub turn : {next : ℕ} → r ≡ To next → Left out₀ at vs after next (i + 1)
+    pub turn : {next : ℕ} → r ≡ Ok next → Left out₀ at vs after next (i + 1)
     turn p =
         let a = (accepted (get_or vs i 0) out place e p).1 in
         record {

@@ -1,10 +1,9 @@
 -- Numbers in a row: their shortest forms one after the other; with one above 2^62-1 among them, 109.
-use Rattle.std.specs.Prelude.{◌≡◌, ℕ, ◌+◌, ◌-◌, ◌^◌, Bool, true, not, ◌&&◌, List, [], ◌∷◌, ◌++◌, leb}
+use Rattle.std.specs.Prelude.{◌≡◌, ℕ, ◌+◌, ◌-◌, ◌^◌, Bool, true, not, ◌&&◌, List, [], ◌∷◌, ◌++◌, leb, Some}
 use Rattle.answers.specs.Choice.{◌⇒◌∣◌}
 use Rattle.answers.specs.declared.Answer.TheVariants.{Unwritable}
 use Rattle.wire.specs.Number.{number_at, bytes_of, size_of}
 use Rattle.wire.specs.Writing.{Draft, Bytes, Never}
-use Rattle.wire.specs.declared.Number.TheVariants.{Is}
 
 -- none is above 2^62-1
 unfoldable pub in_range : List ℕ → Bool
@@ -30,4 +29,4 @@ row_draft vs =
 -- the numbers of a list are read one after the other from a place on, up to n
 abbrev pub ReadAs : List ℕ → ℕ → List ℕ → ℕ → Type 0
 ReadAs s at [] n = at ≡ n
-ReadAs s at (v ∷ vs) n = (next : ℕ) × (number_at s at ≡ Is v next) × ReadAs s next vs n
+ReadAs s at (v ∷ vs) n = (next : ℕ) × (number_at s at ≡ Some (v, next)) × ReadAs s next vs n

@@ -1,5 +1,2 @@
-pub mod Order
-pub mod Sender
 pub mod Taken
-pub mod Tests
 pub mod Unique

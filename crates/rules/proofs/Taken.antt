@@ -7,6 +7,9 @@ use borrow.Author.Tests.{ltb-false}
 use Rattle.answers.specs.declared.Answer.{Answer}
 use Rattle.answers.specs.declared.Answer.TheVariants.{Accepted, FlowControl, StreamLimit, StreamState, FinalSize}
 use Rattle.answers.proofs.Accepts.{passed}
+use Rattle.answers.proofs.Outcome.{passes}
+use Rattle.answers.specs.Outcome.{outcome_of}
+use Rattle.std.specs.Prelude.{Ok}
 use Rattle.streams.specs.declared.Conn.{Conn}
 use Rattle.entries.specs.declared.Entry.{Entry}
 use Rattle.halves.specs.Stream.{stream_of, half_of}
@@ -31,6 +34,6 @@ taken c e id end fin h =
     let g = passed _ FlowControl Accepted refl f.1 in
     record { state = a.0; limit = b.0; size = d.0; within = ltb-false _ _ f.0; room = ltb-false _ _ g.0 }
 
--- the same of an answer that was told apart
-pub taken_as : (c : Conn) (e : Entry) (id end : ℕ) (fin : Bool) (a : Answer) → a ≡ ends_of c e id end fin → a ≡ Accepted → Taken c e id end fin
-taken_as c e id end fin a p q = taken c e id end fin (sym p ∙ q)
+-- the same of an outcome that passes
+pub taken_as : (c : Conn) (e : Entry) (id end : ℕ) (fin : Bool) → outcome_of (ends_of c e id end fin) ≡ Ok tt → Taken c e id end fin
+taken_as c e id end fin h = taken c e id end fin (passes (ends_of c e id end fin) h)

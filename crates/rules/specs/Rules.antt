@@ -1,5 +1,5 @@
 -- The rules for STREAM and RESET_STREAM one by one, docs/RULES.md, "Streams and credit": "STREAM with end = offset + length, in this order"; and those of the frames that name a stream without an end.
-use Rattle.std.specs.Prelude.{ℕ, ◌+◌, ◌-◌, Bool, false, not, ◌&&◌, ◌||◌, ltb, leb, eqb}
+use Rattle.std.specs.Prelude.{ℕ, ◌+◌, ◌-◌, Bool, false, not, ◌&&◌, ◌||◌, ltb, leb, eqb, Option, Some, None}
 use Rattle.answers.specs.Choice.{◌⇒◌∣◌}
 use Rattle.answers.specs.declared.Answer.{Answer}
 use Rattle.answers.specs.declared.Answer.TheVariants.{Accepted, FlowControl, StreamLimit, StreamState, FinalSize}
@@ -8,8 +8,6 @@ use Rattle.entries.specs.Entry.{final_of}
 use Rattle.streams.specs.Conn.{count_of}
 use Rattle.streams.specs.declared.Conn.{Conn}
 use Rattle.entries.specs.declared.Entry.{Entry}
-use Rattle.entries.specs.declared.Final.{Final}
-use Rattle.entries.specs.declared.Final.TheVariants.{Unknown, Known}
 use Rattle.halves.specs.declared.Stream.{Stream}
 
 -- 1. "type 3, or type 1 not opened by us": the peer does not send there, or the stream is ours and not open; count is the stream count of its half
@@ -21,12 +19,12 @@ unfoldable pub rule2 : ℕ → Stream → Bool
 rule2 count s = peers s.half && leb count s.ordinal
 
 -- 3. final size known and end above it, or FIN with another end ..
-abbrev pub against : Final → ℕ → Bool → Bool
-against Unknown end fin = false
-against (Known size) end fin = ltb size end || (fin && not (eqb end size))
+abbrev pub against : Option ℕ → ℕ → Bool → Bool
+against None end fin = false
+against (Some size) end fin = ltb size end || (fin && not (eqb end size))
 
 -- .. or FIN below the furthest end
-unfoldable pub rule3 : Final → ℕ → ℕ → Bool → Bool
+unfoldable pub rule3 : Option ℕ → ℕ → ℕ → Bool → Bool
 rule3 final furthest end fin = against final end fin || (fin && ltb end furthest)
 
 -- 4. end above the stream's credit

@@ -3,10 +3,11 @@
 #![tactic(auto)]
 
 ghost use Rattle.std.specs.Prelude.{◌≡◌, ◌-◌};
+ghost use Rattle.answers.specs.Outcome.{outcome_of};
 ghost use Rattle.rules.specs.Rules;
 
 use answers::Answer;
-use entries::{Entry, Final};
+use entries::Entry;
 use halves::Stream;
 use kinds::Space;
 use streams::Conn;
@@ -25,52 +26,31 @@ pub enum View {
 }
 
 // The peer does not send on the stream's half, or the stream is ours and we did not open it.
+#[tactic(auto, unfolding(crate::specs::Rules::rule1))]
 fn rule1(count: u64, s: Stream) -> bool
     ensures { result ≡ Rules.rule1 count s }
 {
-    if 2 < s.half {
-        return true;
-    }
-    if halves::is_peers(s.half) {
-        return false;
-    }
-    count <= s.ordinal
+    2 < s.half || (!halves::is_peers(s.half) && count <= s.ordinal)
 }
 
 // The stream is the peer's, its ordinal not below the advertised count.
+#[tactic(auto, unfolding(crate::specs::Rules::rule2))]
 fn rule2(count: u64, s: Stream) -> bool
     ensures { result ≡ Rules.rule2 count s }
 {
-    if halves::is_peers(s.half) {
-        return count <= s.ordinal;
-    }
-    false
+    halves::is_peers(s.half) && count <= s.ordinal
 }
 
 // Final size known and end above it, or FIN with another end; or FIN below the furthest end.
-fn rule3(known: Final, furthest: u64, end: u64, fin: bool) -> bool
+#[tactic(auto, unfolding(crate::specs::Rules::rule3))]
+fn rule3(known: Option<u64>, furthest: u64, end: u64, fin: bool) -> bool
     ensures { result ≡ Rules.rule3 known furthest end fin }
 {
-    if fin {
-        if end < furthest {
-            return true;
-        }
-    }
-    match known {
-        Final::Unknown => false,
-        Final::Known { size } => {
-            if size < end {
-                return true;
-            }
-            if fin {
-                return end != size;
-            }
-            false
-        },
-    }
+    known.is_some_and(|size| size < end || (fin && end != size)) || (fin && end < furthest)
 }
 
 // End above the stream's credit.
+#[tactic(auto, unfolding(crate::specs::Rules::rule4))]
 fn rule4(credit: u64, end: u64) -> bool
     ensures { result ≡ Rules.rule4 credit end }
 {
@@ -78,74 +58,66 @@ fn rule4(credit: u64, end: u64) -> bool
 }
 
 // Total plus growth of the furthest end above the connection credit, with no sum that wraps.
+#[tactic(auto, unfolding(crate::specs::Rules::rule5))]
 fn rule5(credit: u64, total: u64, furthest: u64, end: u64) -> bool
     ensures { result ≡ Rules.rule5 credit total furthest end }
 {
-    if credit < total {
-        return true;
-    }
-    credit - total < growth(furthest, end)
+    credit < total || credit - total < growth(furthest, end)
 }
 
-// The answer to a STREAM frame, or to a RESET_STREAM frame with its final size as an end with FIN.
-pub fn ends(c: Conn, e: Entry, id: u64, end: u64, fin: bool) -> Answer
-    ensures { result ≡ Rules.ends_of c e id end fin }
+// Whether a STREAM frame may pass, or a RESET_STREAM frame with its final size as an end with FIN.
+#[tactic(auto, unfolding(crate::specs::Rules::ends_of, crate::specs::Rules::blocked_of))]
+pub fn ends(c: Conn, e: Entry, id: u64, end: u64, fin: bool) -> Result<(), Answer>
+    ensures { result ≡ outcome_of (Rules.ends_of c e id end fin) }
 {
-    let before = blocked(c, id);
-    let Answer::Accepted = before else {
-        return before;
-    };
+    blocked(c, id)?;
     if rule3(e.known(), e.end, end, fin) {
-        return Answer::FinalSize;
+        return Err(Answer::FinalSize);
     }
-    if rule4(e.credit, end) {
-        return Answer::FlowControl;
+    if rule4(e.credit, end) || rule5(c.limits.credit, c.total, e.end, end) {
+        return Err(Answer::FlowControl);
     }
-    if rule5(c.limits.credit, c.total, e.end, end) {
-        return Answer::FlowControl;
-    }
-    Answer::Accepted
+    Ok(())
 }
 
-// The answer to STREAM_DATA_BLOCKED.
-pub fn blocked(c: Conn, id: u64) -> Answer
-    ensures { result ≡ Rules.blocked_of c id }
+// Whether STREAM_DATA_BLOCKED may.
+#[tactic(auto, unfolding(crate::specs::Rules::blocked_of))]
+pub fn blocked(c: Conn, id: u64) -> Result<(), Answer>
+    ensures { result ≡ outcome_of (Rules.blocked_of c id) }
 {
     let s = halves::named(id);
     let count = c.count_of(id);
     if rule1(count, s) {
-        return Answer::StreamState;
+        return Err(Answer::StreamState);
     }
     if rule2(count, s) {
-        return Answer::StreamLimit;
+        return Err(Answer::StreamLimit);
     }
-    Answer::Accepted
+    Ok(())
 }
 
-// The answer to STOP_SENDING and MAX_STREAM_DATA.
-#[tactic(auto, using(crate::proofs::Sender::never_ours))]
-pub fn for_sender(c: Conn, id: u64) -> Answer
-    ensures { result ≡ Rules.for_sender_of c id }
+// Whether STOP_SENDING and MAX_STREAM_DATA may.
+#[tactic(auto, unfolding(crate::specs::Rules::for_sender_of, crate::specs::Rules::rule2))]
+pub fn for_sender(c: Conn, id: u64) -> Result<(), Answer>
+    ensures { result ≡ outcome_of (Rules.for_sender_of c id) }
 {
     let s = halves::named(id);
     if s.half == 2 {
-        return Answer::StreamState;
+        return Err(Answer::StreamState);
     }
-    if c.count_of(id) <= s.ordinal {
-        if halves::is_peers(s.half) {
-            return Answer::StreamLimit;
-        }
-        return Answer::StreamState;
+    if s.ordinal < c.count_of(id) {
+        return Ok(());
     }
-    Answer::Accepted
+    if halves::is_peers(s.half) {
+        Err(Answer::StreamLimit)
+    } else {
+        Err(Answer::StreamState)
+    }
 }
 
 // How far `to` is above `from`, if it is.
 pub fn growth(from: u64, to: u64) -> u64
     ensures { result ≡ to - from }
 {
-    if from < to {
-        return to - from;
-    }
-    0
+    to.saturating_sub(from)
 }

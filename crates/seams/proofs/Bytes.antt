@@ -5,24 +5,9 @@ use mathlib.Core.Path.{◌≡◌, refl, ◌∙◌, ap}
 use mathlib.Core.List.{List}
 use native.Mathlib.Omega.{arith}
 use native.Mathlib.Decide.{dec_le, ℕ_discrete}
-use lib.ListN.{length, get_or, set, length-set}
+use lib.ListN.{length, get_or}
 use lib.Bits.{bit_or, bit_xor, or_add_and, xor_add_and, and_le_l, and_le_r, xor_self}
-use lib.Seq.{get_or-set_same, get_or-set_other}
 use Rattle.seams.specs.Parts.{Copied, Stored, Same, SameAt}
-
-pub copy_none : (o s : List ℕ) (i j : ℕ) → Copied o i s j 0 o
-copy_none o s i j = record { long = refl; inside = λ k h. absurd (omega arith); rest = λ x f. refl }
-
-pub copy_more : (o t s : List ℕ) (i j n : ℕ) → i + n < length o → Copied o i s j n t → Copied o i s j (n + 1) (set t (i + n) (get_or s (j + n) 0))
-copy_more o t s i j n h c = record {
-  long = length-set t (i + n) (get_or s (j + n) 0) ∙ c.long;
-  inside = λ k l. go k l (ℕ_discrete k n);
-  rest = λ x f. get_or-set_other t (i + n) x _ 0 (λ e. f (omega arith) (omega arith)) ∙ c.rest x (λ a b. f a (omega arith));
-}
-  where
-    go : (k : ℕ) → k < n + 1 → Dec (k ≡ n) → get_or (set t (i + n) (get_or s (j + n) 0)) (i + k) 0 ≡ get_or s (j + k) 0
-    go k l (yes e) = rw e (get_or-set_same t (i + n) _ 0 (omega (arith, c.long)))
-    go k l (no f) = get_or-set_other t (i + n) (i + k) _ 0 (omega arith) ∙ c.inside k (omega arith)
 
 -- a part up to the seam, and one after it
 pub store_parts : (o t u s : List ℕ) (at j n m : ℕ) → length o ≡ 4096 → n ≤ 4096 → m ≤ n → at % 4096 + m ≤ 4096 → (m < n → at % 4096 + m ≡ 4096)

@@ -8,27 +8,18 @@ ghost use Rattle.seams.specs.Seam.{fit_of, stored_of, same_of, taken_out};
 ghost use Rattle.seams.specs.Parts.{Copied, Same};
 
 // Whether the ring has 4,096 bytes, n places are not more than it has, and other bytes have n from j on.
+#[tactic(auto, unfolding(crate::specs::Seam::fit_of))]
 fn fits(ring: usize, others: usize, j: usize, n: usize) -> bool
     ensures { result ≡ fit_of ring others j n }
 {
-    if ring != 4096 {
-        return false;
-    }
-    if 4096 < n {
-        return false;
-    }
-    if others < n {
-        return false;
-    }
-    j <= others - n
+    ring == 4096 && n <= 4096 && n <= others && j <= others - n
 }
 
 // How many of the n places from `at` on come before the ring's seam.
 fn before_seam(at: u64, n: usize) -> usize
     ensures { result ≡ min n (4096 - at % 4096) }
 {
-    let left = 4096 - (at % 4096) as usize;
-    if n < left { n } else { left }
+    n.min(4096 - (at % 4096) as usize)
 }
 
 // Copies n bytes of s, from j on, to i.
@@ -36,11 +27,7 @@ fn copy(out: &mut [u8], i: usize, s: &[u8], j: usize, n: usize)
     requires { (i + n ≤ length out.old) × (j + n ≤ length s.now) }
     ensures { Copied out.old i s.now j n out.new }
 {
-    let mut k = 0;
-    while k < n {
-        out[i + k] = s[j + k];
-        k += 1;
-    }
+    out[i..i + n].copy_from_slice(&s[j..j + n]);
 }
 
 // Stores n bytes of s, from j on, at the places from `at` on; nothing where they do not fit.
@@ -72,11 +59,9 @@ fn same(a: &[u8], i: usize, b: &[u8], j: usize, n: usize) -> bool
     requires { (i + n ≤ length a.now) × (j + n ≤ length b.now) }
     ensures { Decides (Same a.now i b.now j n) result }
 {
-    let mut all = 0u8;
-    let mut k = 0;
-    while k < n {
+    let mut all = 0;
+    for k in 0..n {
         all |= a[i + k] ^ b[j + k];
-        k += 1;
     }
     all == 0
 }

@@ -8,43 +8,31 @@ ghost use Rattle.search.specs.Words.{find_of, same_of};
 pub fn find(s: &[u8], at: usize, byte: u8) -> usize
     ensures { result ≡ find_of s.now at byte }
 {
-    let mut i = at;
-    while i < s.len() {
+    for i in at..s.len() {
         if s[i] == byte {
             return i;
         }
-        i += 1;
     }
-    i
+    at.max(s.len())
 }
 
 // Where the word from a place on ends: at a blank.
 pub fn word_end(s: &[u8], at: usize) -> usize
     ensures { result ≡ find_of s.now at 32 }
 {
-    find(s, at, 32)
+    find(s, at, b' ')
 }
 
 // Where the line from a place on ends: at a newline.
 pub fn line_end(s: &[u8], at: usize) -> usize
     ensures { result ≡ find_of s.now at 10 }
 {
-    find(s, at, 10)
+    find(s, at, b'\n')
 }
 
 // Whether two texts are the same.
 pub fn same(s: &[u8], word: &[u8]) -> bool
     ensures { result ≡ same_of s.now word.now }
 {
-    if s.len() != word.len() {
-        return false;
-    }
-    let mut i = 0;
-    while i < s.len() {
-        if s[i] != word[i] {
-            return false;
-        }
-        i += 1;
-    }
-    true
+    s == word
 }

@@ -16,12 +16,9 @@ use Rattle.kinds.specs.declared.Kind.{Kind}
 use Rattle.kinds.specs.declared.Role.{Role}
 use Rattle.kinds.specs.declared.Role.TheVariants.{Server, Client}
 use Rattle.fields.specs.Heads.{head_at}
-use Rattle.fields.specs.declared.Head.{Head}
-use Rattle.fields.specs.declared.Head.TheVariants as Head'
 use Rattle.frames.specs.declared.Frame.{Frame}
 use Rattle.frames.specs.declared.Frame.TheVariants.{Padding, Ping, Ack, AckEcn, ResetStream, StopSending, Crypto, NewToken, Stream, MaxData, MaxStreamData, MaxStreams, DataBlocked, StreamDataBlocked, StreamsBlocked, NewConnectionId, RetireConnectionId, PathChallenge, PathResponse, ConnectionClose, ApplicationClose, HandshakeDone}
 use Rattle.frames.specs.declared.Reading.{Reading}
-use Rattle.frames.specs.declared.Reading.TheVariants.{Got, Refused}
 use Rattle.admission.specs.Admission.{admitted}
 use Rattle.frames.specs.Fields.{fields_at}
 use Rattle.frames.specs.Reading.{with_head, admitted_head, frame_at}
@@ -54,6 +51,9 @@ use Rattle.demands.specs.Hosts.Act.{TakeFrame, Make, HandOut}
 use Rattle.demands.proofs.Proved.{called_number}
 use Rattle.seats.specs.Mirror.{Sized, Agree, exchanged_frame, exchanged_reading, Exchanged, exchanged_call, Mirror, Mirrors, OpenAlike}
 use Rattle.seats.proofs.Same.{across, over, count_same, fits_same, decided_over, decided_same, replied_over, replied_same, handed_same}
+use Rattle.std.specs.Prelude.{Result, Ok, Err}
+use Rattle.fields.specs.Heads.{refusal}
+use Rattle.fields.specs.declared.Refusal.{Refusal}
 
 -- ---- a state and its like at the other end
 
@@ -164,24 +164,24 @@ exchanged_asks role kind f = elim f as (λ (k : Frame). view_of (other_of role) 
   | HandshakeDone ↦ refl
 ]
 
-request_same : (role : Role) (kind : Kind) (at : ℕ) (x : Reading) → request_of (other_of role) kind at (exchanged_reading x) ≡ request_of role kind at x
+request_same : (role : Role) (kind : Kind) (at : ℕ) (x : Result Reading Refusal) → request_of (other_of role) kind at (exchanged_reading x) ≡ request_of role kind at x
 unfolding request_of
-request_same role kind at (Got frame ty next) = rw (exchanged_asks role kind frame) refl
-request_same role kind at (Refused answer ty) = refl
+request_same role kind at (Ok r) = rw (exchanged_asks role kind r.frame) refl
+request_same role kind at (Err r) = refl
 
 module _ (role : Role) (s r : List ℕ) (at : ℕ) (kind : Kind) (x : Exchanged role s r at kind) where
   reads_exchanged : frame_at (other_of role) r at kind ≡ exchanged_reading (frame_at role s at kind)
   unfolding frame_at
-  reads_exchanged = ap (λ (y : Head). with_head (admitted_head (other_of role) kind y) (λ ty next. fields_at r next ty)) x.head ∙ go (head_at s at) refl
+  reads_exchanged = ap (λ (y : Result (ℕ × ℕ) Refusal). with_head (admitted_head (other_of role) kind y) (λ ty next. fields_at r next ty)) x.head ∙ go (head_at s at) refl
     where
-      go : (y : Head) → head_at s at ≡ y → with_head (admitted_head (other_of role) kind y) (λ ty next. fields_at r next ty) ≡ exchanged_reading (with_head (admitted_head role kind y) (λ ty next. fields_at s next ty))
-      go (Head'.Refused answer ty) e = refl
-      go (Head'.Type ty next) e =
-          ap (λ (b : Bool). with_head (not b ⇒ Head'.Refused ProtocolViolation ty ∣ Head'.Type ty next) (λ ty next. fields_at r next ty)) (x.admission ty next e)
+      go : (y : Result (ℕ × ℕ) Refusal) → head_at s at ≡ y → with_head (admitted_head (other_of role) kind y) (λ ty next. fields_at r next ty) ≡ exchanged_reading (with_head (admitted_head role kind y) (λ ty next. fields_at s next ty))
+      go (Err r) e = refl
+      go (Ok (ty, next)) e =
+          ap (λ (b : Bool). with_head (not b ⇒ Err (refusal ProtocolViolation ty) ∣ Ok (ty, next)) (λ ty next. fields_at r next ty)) (x.admission ty next e)
           ∙ by_test (admitted role kind ty)
         where
-          by_test : (b : Bool) → with_head (not b ⇒ Head'.Refused ProtocolViolation ty ∣ Head'.Type ty next) (λ ty next. fields_at r next ty)
-              ≡ exchanged_reading (with_head (not b ⇒ Head'.Refused ProtocolViolation ty ∣ Head'.Type ty next) (λ ty next. fields_at s next ty))
+          by_test : (b : Bool) → with_head (not b ⇒ Err (refusal ProtocolViolation ty) ∣ Ok (ty, next)) (λ ty next. fields_at r next ty)
+              ≡ exchanged_reading (with_head (not b ⇒ Err (refusal ProtocolViolation ty) ∣ Ok (ty, next)) (λ ty next. fields_at s next ty))
           by_test true = x.fields ty next e
           by_test false = refl
 
@@ -192,13 +192,13 @@ module _ (role : Role) (s r : List ℕ) (at : ℕ) (kind : Kind) (x : Exchanged 
 -- ---- the call for one frame
 
 -- its answer, the connection and the table, by the gate
-frame_answer : (h : State) (s : List ℕ) (at : ℕ) (kind : Kind) → answered h (TakeFrame s at kind) ≡ ((gate_at h.conn h.table).passes ⇒ (stepped_at h.conn h.table s at kind).answer ∣ (gate_at h.conn h.table).answer)
+frame_answer : (h : State) (s : List ℕ) (at : ℕ) (kind : Kind) → answered h (TakeFrame s at kind) ≡ (accepts (gate_at h.conn h.table) ⇒ (stepped_at h.conn h.table s at kind).answer ∣ gate_at h.conn h.table)
 unfolding took_frame_of
-frame_answer h s at kind = through (λ (x : TookFrame). x.answer) (gate_at h.conn h.table).passes _ _
+frame_answer h s at kind = through (λ (x : TookFrame). x.answer) (accepts (gate_at h.conn h.table)) _ _
 
-frame_conn : (h : State) (s : List ℕ) (at : ℕ) (kind : Kind) → (took_frame_of h.conn h.table s at kind).conn ≡ ((gate_at h.conn h.table).passes ⇒ (stepped_at h.conn h.table s at kind).conn ∣ h.conn)
+frame_conn : (h : State) (s : List ℕ) (at : ℕ) (kind : Kind) → (took_frame_of h.conn h.table s at kind).conn ≡ (accepts (gate_at h.conn h.table) ⇒ (stepped_at h.conn h.table s at kind).conn ∣ h.conn)
 unfolding took_frame_of
-frame_conn h s at kind = through (λ (x : TookFrame). x.conn) (gate_at h.conn h.table).passes _ _
+frame_conn h s at kind = through (λ (x : TookFrame). x.conn) (accepts (gate_at h.conn h.table)) _ _
 
 module _ (h : State) (s r : List ℕ) (at : ℕ) (kind : Kind) (x : Exchanged h.conn.role s r at kind) where
   abbrev asks : request_at (other_of h.conn.role) r at kind ≡ request_at h.conn.role s at kind
@@ -211,7 +211,7 @@ module _ (h : State) (s r : List ℕ) (at : ℕ) (kind : Kind) (x : Exchanged h.
   frame_answers : answered (over h) (TakeFrame r at kind) ≡ answered h (TakeFrame s at kind)
   frame_answers =
       frame_answer (over h) r at kind
-      ∙ (λ i. (gate_of (fits_same h.conn h.table i) h.conn.mark).passes ⇒ (decided_over_law i).stepped.answer ∣ (gate_of (fits_same h.conn h.table i) h.conn.mark).answer)
+      ∙ (λ i. accepts (gate_of (fits_same h.conn h.table i) h.conn.mark) ⇒ (decided_over_law i).stepped.answer ∣ gate_of (fits_same h.conn h.table i) h.conn.mark)
       ∙ sym (frame_answer h s at kind)
 
   frame_leaves : acted (over h) (TakeFrame r at kind) ≡ over (acted h (TakeFrame s at kind))
@@ -221,12 +221,12 @@ module _ (h : State) (s r : List ℕ) (at : ℕ) (kind : Kind) (x : Exchanged h.
       conns : (took_frame_of (across h.conn) h.table r at kind).conn ≡ across (took_frame_of h.conn h.table s at kind).conn
       conns =
           frame_conn (over h) r at kind
-          ∙ (λ i. (gate_of (fits_same h.conn h.table i) h.conn.mark).passes ⇒ (decided_over_law i).stepped.conn ∣ across h.conn)
-          ∙ sym (through across (gate_at h.conn h.table).passes _ _)
+          ∙ (λ i. accepts (gate_of (fits_same h.conn h.table i) h.conn.mark) ⇒ (decided_over_law i).stepped.conn ∣ across h.conn)
+          ∙ sym (through across (accepts (gate_at h.conn h.table)) _ _)
           ∙ ap across (sym (frame_conn h s at kind))
 
       tables : frame_table (across h.conn) h.table r at kind ≡ frame_table h.conn h.table s at kind
-      tables = λ i. (gate_of (fits_same h.conn h.table i) h.conn.mark).passes ⇒ set h.table (asks i).place (decided_over_law i).entry ∣ h.table
+      tables = λ i. accepts (gate_of (fits_same h.conn h.table i) h.conn.mark) ⇒ set h.table (asks i).place (decided_over_law i).entry ∣ h.table
 
 -- ---- a local call
 

@@ -13,19 +13,20 @@ use Rattle.layouts.specs.Body.{optional_at, numbers_at, sized_at, counted_at, re
 use Rattle.fields.specs.Faults.{above_of, fault_of}
 use Rattle.fields.specs.Parts.{ended_at, parts_at}
 use Rattle.fields.specs.Heads.{head_at}
-use Rattle.fields.specs.declared.Head.TheVariants as Head'
 use Rattle.fields.specs.declared.Parts.{Parts}
 use Rattle.kinds.specs.declared.Kind.{Kind}
 use Rattle.kinds.specs.declared.Role.{Role}
 use Rattle.admission.specs.Admission.{admitted}
 use Rattle.frames.specs.declared.Frame.{Frame}
 use Rattle.frames.specs.declared.Reading.{Reading}
-use Rattle.frames.specs.declared.Reading.TheVariants.{Got, Refused}
 use Rattle.frames.specs.Fields.{frame_of, fields_at}
 use Rattle.frames.proofs.Sound.{fields_got}
 use Rattle.halves.specs.Seat.{exchanged_of, other_of}
 use Rattle.seats.specs.Mirror.{exchanged_frame, exchanged_reading, Exchanged}
 use Rattle.seats.specs.Pairs.{names_stream, Itself, Pairs}
+use Rattle.std.specs.Prelude.{Result, Ok, Err}
+use Rattle.frames.specs.Fields.{read_as}
+use Rattle.fields.specs.declared.Refusal.{Refusal}
 
 -- ---- a frame that names no stream is its own like
 
@@ -67,26 +68,29 @@ alone p n =
 fields_alone : (s : List ℕ) (next ty : ℕ) → names_stream ty ≡ false → fields_at s next ty ≡ exchanged_reading (fields_at s next ty)
 fields_alone s next ty n = go (fields_at s next ty) refl
   where
-    go : (x : Reading) → fields_at s next ty ≡ x → x ≡ exchanged_reading x
-    go (Got frame t end) e =
+    go : (x : Result Reading Refusal) → fields_at s next ty ≡ x → x ≡ exchanged_reading x
+    go (Ok r') e =
         let r = fields_got s next ty e in
         let f = alone (record { ty = ty; a = r.a; b = r.b; c = r.c; d = r.d; at = r.start; len = r.len; token = r.token; x = r.x; y = r.y; z = r.z }) n in
-        ap (λ (g : Frame). Got g t end) (r.made ∙ sym f ∙ ap exchanged_frame (sym r.made))
-    go (Refused answer t) e = refl
+        ap (λ (g : Frame). read_as g r'.ty r'.next) (r.made ∙ sym f ∙ ap exchanged_frame (sym r.made))
+    go (Err r) e = refl
 
 pub itself : Itself
 itself role s at kind h = record { head = refl; admission = λ ty next e. (h ty next e).1; fields = λ ty next e. fields_alone s next ty (h ty next e).0 }
 
 -- ---- two payloads whose frame at a place is of one type
 
-with_type : (role : Role) (s r : List ℕ) (at : ℕ) (kind : Kind) (ty next : ℕ) → head_at s at ≡ Head'.Type ty next → head_at r at ≡ Head'.Type ty next
+with_type : (role : Role) (s r : List ℕ) (at : ℕ) (kind : Kind) (ty next : ℕ) → head_at s at ≡ Ok (ty, next) → head_at r at ≡ Ok (ty, next)
     → admitted (other_of role) kind ty ≡ admitted role kind ty → fields_at r next ty ≡ exchanged_reading (fields_at s next ty) → Exchanged role s r at kind
 with_type role s r at kind ty next hs hr a f = record {
   head = hr ∙ sym hs;
-  admission = λ t n e. let p : ty ≡ t = cc in subst (λ (x : ℕ). admitted (other_of role) kind x ≡ admitted role kind x) p a;
+  admission = λ t n e.
+      let w : (ty, next) ≡ (t, n) = cc in
+      let p : ty ≡ t = ap (λ (x : ℕ × ℕ). x.0) w in subst (λ (x : ℕ). admitted (other_of role) kind x ≡ admitted role kind x) p a;
   fields = λ t n e.
-      let p : ty ≡ t = cc in
-      let q : next ≡ n = cc in
+      let w : (ty, next) ≡ (t, n) = cc in
+      let p : ty ≡ t = ap (λ (x : ℕ × ℕ). x.0) w in
+      let q : next ≡ n = ap (λ (x : ℕ × ℕ). x.1) w in
       subst (λ (x : ℕ). fields_at r x t ≡ exchanged_reading (fields_at s x t)) q (subst (λ (x : ℕ). fields_at r next x ≡ exchanged_reading (fields_at s next x)) p f);
 }
 

@@ -31,7 +31,8 @@ use Rattle.replies.specs.Replies.{conn_called, entry_called, number_called, rule
 use Rattle.limits.specs.Fits.{open_fit, conn_fits, fits}
 use Rattle.steps.specs.declared.Decided.{Decided}
 use Rattle.steps.specs.declared.Request.{Request}
-use Rattle.steps.specs.Step.{decided_as, decided_of}
+use Rattle.steps.specs.Step.{judged_or, decided_as, decided_of}
+use Rattle.std.specs.Prelude.{Result, Ok, Err}
 use Rattle.accounts.specs.History.{State}
 
 -- the same connection at the other end
@@ -88,16 +89,15 @@ judged_same c e ty v =
     ∙ settled_same (verdict_of c e v) c e ty (conn_heard c e v) (entry_heard e v)
 
 abbrev pub decided_over : Decided → Decided
-decided_over d = record { stepped = record { conn = across d.stepped.conn; answer = d.stepped.answer; more = d.stepped.more; next = d.stepped.next }; entry = d.entry }
+decided_over d = record { stepped = record { conn = across d.stepped.conn; answer = d.stepped.answer; next = d.stepped.next }; entry = d.entry }
+
+judged_or_same : (c : Conn) (e : Entry) (ty : ℕ) (asks : Result View Answer) → judged_or (across c) e ty asks ≡ judged_over (judged_or c e ty asks)
+judged_or_same c e ty (Ok view) = judged_same c e ty view
+judged_or_same c e ty (Err answer) = refl
 
 pub decided_same : (c : Conn) (e : Entry) (a : Request) → decided_of (across c) e a ≡ decided_over (decided_of c e a)
 unfolding decided_of
-decided_same c e a = go (accepts a.answer)
-  where
-    go : (b : Bool) → (b ⇒ decided_as (judged_of (across c) e a.ty a.view) a.next ∣ decided_as (record { answer = a.answer; conn = marked_as (across c) (Code a.answer a.ty); entry = e }) a.next)
-        ≡ decided_over (b ⇒ decided_as (judged_of c e a.ty a.view) a.next ∣ decided_as (record { answer = a.answer; conn = marked_as c (Code a.answer a.ty); entry = e }) a.next)
-    go true = ap (λ (j : Judged). decided_as j a.next) (judged_same c e a.ty a.view)
-    go false = refl
+decided_same c e a = ap (λ (j : Judged). decided_as j a.next) (judged_or_same c e a.ty a.asks)
 
 -- ---- a local call, and a number handed out
 

@@ -1,5 +1,5 @@
 -- The rules and the local calls at a client's borders, each from both sides, with what is left: bytes and types as on the wire, on a client all of whose numbers differ. docs/RULES.md, "At a client": types 1, 0, 3 and 2 are there what types 0, 1, 2 and 3 are at a server.
-use Rattle.std.specs.Prelude.{ℕ, ◌+◌, ◌-◌, ◌^◌, ◌≡◌, true, false, List, [], ◌∷◌, ◌++◌, map, replicate}
+use Rattle.std.specs.Prelude.{ℕ, ◌-◌, ◌^◌, ◌≡◌, List, [], ◌∷◌, ◌++◌, map, replicate}
 use Rattle.answers.specs.Answers.{number_of}
 use Rattle.answers.specs.declared.Answer.{Answer}
 use Rattle.answers.specs.declared.Answer.TheVariants.{Accepted, StreamLimit, StreamState, ProtocolViolation, NotAbove, AboveCeiling, NotServed, DoesNotFit}
@@ -76,10 +76,10 @@ answers frame l = map (λ id. number_of (heard before (frame id)).stepped.answer
 
 -- what a frame of n bytes leaves: accepted, with a connection and an entry; or refused, with the mark alone changed
 abbrev pub accepted : ℕ → Conn → Entry → Decided
-accepted n c e = record { stepped = record { conn = c; answer = Accepted; more = true; next = n }; entry = e }
+accepted n c e = record { stepped = record { conn = c; answer = Accepted; next = n }; entry = e }
 
 abbrev pub refused : Answer → ℕ → ℕ → Decided
-refused answer ty n = record { stepped = record { conn = held 1 2 3 4 20 (Code answer ty); answer = answer; more = false; next = n }; entry = growing 16 6 }
+refused answer ty n = record { stepped = record { conn = held 1 2 3 4 20 (Code answer ty); answer = answer; next = n }; entry = growing 16 6 }
 
 -- ---- local calls, on the same entry
 

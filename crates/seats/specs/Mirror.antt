@@ -1,16 +1,14 @@
 -- The mirror: what the role is. A client and a server that agree but for the exchange of types 0 with 1 and 2 with 3 in every ID, count and limit give the same answer to every frame whose admission is the same at both, to every local call and to every number asked for; and they agree so again.
 -- So a rule of the client's seat is the server's with the types exchanged, whatever the rule: RFC 9000 2.1, docs/RULES.md, "Streams and credit".
-use Rattle.std.specs.Prelude.{ℕ, ◌≡◌, true, List, length}
+use Rattle.std.specs.Prelude.{ℕ, ◌≡◌, true, List, length, Result, Ok, Err}
 use Rattle.answers.specs.Answers.{accepts}
 use Rattle.kinds.specs.declared.Kind.{Kind}
 use Rattle.kinds.specs.declared.Role.{Role}
 use Rattle.kinds.specs.declared.Space.{Space}
 use Rattle.fields.specs.Heads.{head_at}
-use Rattle.fields.specs.declared.Head.TheVariants as Head'
 use Rattle.frames.specs.declared.Frame.{Frame}
 use Rattle.frames.specs.declared.Frame.TheVariants.{Padding, Ping, Ack, AckEcn, ResetStream, StopSending, Crypto, NewToken, Stream, MaxData, MaxStreamData, MaxStreams, DataBlocked, StreamDataBlocked, StreamsBlocked, NewConnectionId, RetireConnectionId, PathChallenge, PathResponse, ConnectionClose, ApplicationClose, HandshakeDone}
 use Rattle.frames.specs.declared.Reading.{Reading}
-use Rattle.frames.specs.declared.Reading.TheVariants.{Got, Refused}
 use Rattle.admission.specs.Admission.{admitted}
 use Rattle.frames.specs.Fields.{fields_at}
 use Rattle.halves.specs.Seat.{exchanged_of, seated_of, other_of}
@@ -25,6 +23,9 @@ use Rattle.calls.specs.declared.Call.TheVariants.{RaiseCredit, RaiseStream, Rais
 use Rattle.accounts.specs.History.{State}
 use Rattle.demands.specs.Hosts.{Act, answered, acted, number_given, hosted}
 use Rattle.demands.specs.Hosts.Act.{TakeFrame, Make, HandOut}
+use Rattle.frames.specs.Fields.{read_as}
+use Rattle.frames.specs.Fields.{refused_as}
+use Rattle.fields.specs.declared.Refusal.{Refusal}
 
 -- ---- what a host holds, by types and IDs as on the wire
 
@@ -87,15 +88,15 @@ exchanged_frame (ConnectionClose code ty at len) = ConnectionClose code ty at le
 exchanged_frame (ApplicationClose code at len) = ApplicationClose code at len
 exchanged_frame HandshakeDone = HandshakeDone
 
-abbrev pub exchanged_reading : Reading → Reading
-exchanged_reading (Got frame ty next) = Got (exchanged_frame frame) ty next
-exchanged_reading (Refused answer ty) = Refused answer ty
+abbrev pub exchanged_reading : Result Reading Refusal → Result Reading Refusal
+exchanged_reading (Ok r) = read_as (exchanged_frame r.frame) r.ty r.next
+exchanged_reading (Err r) = refused_as r.answer r.ty
 
 -- the bytes r hold at a place what the bytes s hold there, but for the exchange: the same type, whose admission in packets of this kind is the same at both ends, and the fields of the exchanged frame, or such as give the same code
 pub record Exchanged (role : Role) (s r : List ℕ) (at : ℕ) (kind : Kind) : Type 0 where
   pub head : head_at r at ≡ head_at s at
-  pub admission : (ty next : ℕ) → head_at s at ≡ Head'.Type ty next → admitted (other_of role) kind ty ≡ admitted role kind ty
-  pub fields : (ty next : ℕ) → head_at s at ≡ Head'.Type ty next → fields_at r next ty ≡ exchanged_reading (fields_at s next ty)
+  pub admission : (ty next : ℕ) → head_at s at ≡ Ok (ty, next) → admitted (other_of role) kind ty ≡ admitted role kind ty
+  pub fields : (ty next : ℕ) → head_at s at ≡ Ok (ty, next) → fields_at r next ty ≡ exchanged_reading (fields_at s next ty)
 
 -- a call with the exchanged stream or type
 abbrev pub exchanged_call : Call → Call

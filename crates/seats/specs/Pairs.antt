@@ -1,11 +1,10 @@
 -- What the mirror asks of two payloads can be met: bytes that name no stream are their own like, whatever they are; and a frame of each type that names one has its like in the bytes with another ID.
-use Rattle.std.specs.Prelude.{ℕ, ◌/◌, ◌≡◌, Bool, false, ◌||◌, List, [], ◌∷◌, eqb}
+use Rattle.std.specs.Prelude.{ℕ, ◌/◌, ◌≡◌, Bool, false, ◌||◌, List, [], ◌∷◌, eqb, Ok}
 use Rattle.kinds.specs.declared.Kind.{Kind}
 use Rattle.kinds.specs.declared.Kind.TheVariants.{OneRtt}
 use Rattle.kinds.specs.declared.Role.{Role}
 use Rattle.kinds.specs.declared.Role.TheVariants.{Server, Client}
 use Rattle.fields.specs.Heads.{head_at}
-use Rattle.fields.specs.declared.Head.TheVariants as Head'
 use Rattle.admission.specs.Admission.{admitted}
 use Rattle.halves.specs.Seat.{other_of}
 use Rattle.seats.specs.Mirror.{Exchanged}
@@ -17,7 +16,7 @@ names_stream ty = eqb (ty / 8) 1 || (eqb ty 0x04 || (eqb ty 0x05 || (eqb ty 0x11
 -- one payload at both ends
 abbrev pub Itself : Type 0
 Itself = (role : Role) (s : List ℕ) (at : ℕ) (kind : Kind)
-    → ((ty next : ℕ) → head_at s at ≡ Head'.Type ty next → (names_stream ty ≡ false) × (admitted (other_of role) kind ty ≡ admitted role kind ty))
+    → ((ty next : ℕ) → head_at s at ≡ Ok (ty, next) → (names_stream ty ≡ false) × (admitted (other_of role) kind ty ≡ admitted role kind ty))
     → Exchanged role s s at kind
 
 pub record Pairs : Type 0 where

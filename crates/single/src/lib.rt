@@ -32,13 +32,13 @@ pub fn step(c: Conn, t: &mut [Entry], s: &[u8], at: usize, kind: Kind) -> Steppe
 }
 
 // Takes the frame at a place of the payload of a packet of this kind.
+#[tactic(auto, unfolding(crate::specs::Single::took_frame_of, crate::specs::Single::frame_table))]
 pub fn take_frame(c: Conn, t: &mut [Entry], s: &[u8], at: usize, kind: Kind) -> TookFrame
     ensures { (result ≡ took_frame_of c t.old s.now at kind) × (t.new ≡ frame_table c t.old s.now at kind) }
 {
-    let g = steps::gates::gate(tables::fits(c, t), c.mark);
-    if !g.passes {
+    if let Err(answer) = steps::gates::gate(tables::fits(c, t), c.mark) {
         return TookFrame {
-            answer: g.answer,
+            answer,
             shown: Shown::Nothing,
             conn: c,
         };

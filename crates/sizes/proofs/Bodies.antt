@@ -3,6 +3,7 @@
 use mathlib.Core.Path.{◌≡◌}
 use mathlib.Core.Bool.{true, and-eq-true_iff}
 use mathlib.Core.List.{List, ◌∷◌, ◌++◌}
+use mathlib.Core.Logic.{◌⊎◌, inl, inr}
 use Prim.Native.Nat.{ℕ, ◌+◌, ◌≤◌}
 use native.Mathlib.Omega.{arith}
 use borrow.Author.Tests.{leb-true, le-leb}
@@ -13,7 +14,9 @@ use Rattle.wire.specs.Number.{bytes_of, size_of}
 use Rattle.wire.proofs.Exit.{length_bytes}
 use Rattle.fields.specs.declared.Parts.{Parts}
 use Rattle.layouts.specs.declared.Tail.{Tail}
-use Rattle.contents.specs.Content.{token_inside, inside_of}
+use Rattle.layouts.specs.declared.Tail.TheVariants.{Remainder, Eight}
+use Rattle.contents.specs.Content.{body_of, token_of, token_inside, inside_of}
+use Rattle.sizes.specs.Spelled.{body_bytes}
 
 -- places that lie inside
 pub within : (n : ℕ) (tail : Tail) (p : Parts) → inside_of n tail p ≡ true → (p.at + p.len ≤ n) × (token_inside n tail p ≡ true)
@@ -38,3 +41,9 @@ pub identity_length : (s : List ℕ) (from len token : ℕ) → from + len ≤ l
 identity_length s from len token h k =
     let e = length-append (slice from (from + len) s) (slice token (token + 16) s) in
     omega (arith, e, part_length s from len h, part_length s token 16 k)
+
+-- for two tails the bytes of the frame are all that stands between its numbers
+pub plain : (s : List ℕ) (tail : Tail) (p : Parts) → (tail ≡ Remainder) ⊎ (tail ≡ Eight)
+    → body_bytes tail p.len (body_of s tail p) (token_of s tail p) ≡ slice p.at (p.at + p.len) s
+plain s tail p (inl e) = rw e
+plain s tail p (inr e) = rw e

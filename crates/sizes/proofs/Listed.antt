@@ -11,20 +11,19 @@ use lib.Dec.{leb}
 use lib.ListN.{length, get_or}
 use Rattle.answers.proofs.Distinct.{impossible}
 use Rattle.wire.specs.Number.{number_at, form_at, values_in, size_of, Stands}
-use Rattle.wire.specs.declared.Number.TheVariants.{Is}
 use Rattle.wire.proofs.Sound.{sound, found, four, with_number_law}
 use Rattle.wire.proofs.Back.{by_size}
 use Rattle.row.specs.Row.{in_range, size_all, bytes_all}
 use Rattle.row.proofs.Back.{peel}
 use Rattle.ranges.specs.Ranges.{range_at, ranges_at}
 use Rattle.ranges.specs.Listed.{listed, fits}
-use Rattle.ranges.specs.declared.Ranges.TheVariants.{To}
 use Rattle.ranges.proofs.Steps.{below_spans}
 use Rattle.ranges.proofs.Listed.{listed_range_step}
+use Rattle.std.specs.Prelude.{Some}
 
 -- numbers that fit and stand in their shortest forms are read as ranges, and are the numbers of these
 pub back : (out : List ℕ) (k at low : ℕ) (l : List ℕ) → fits low k l ≡ true → in_range l ≡ true → Stands out at (bytes_all l)
-    → (ranges_at out k at low ≡ To (at + size_all l)) × (listed out at (2 * k) ≡ l)
+    → (ranges_at out k at low ≡ Some (at + size_all l)) × (listed out at (2 * k) ≡ l)
 unfolding fits listed ranges_at range_at size_all
 back out zero at low [] e r st = (rw add-zero, refl)
 back out zero at low (v ∷ l) e r st = impossible cc
@@ -38,7 +37,7 @@ back out (suc k) at low (gap ∷ len ∷ l) e r st =
     let q = peel out (at + size_of gap) len l p.1 p.2 in
     let next = at + size_of gap + size_of len in
     let i = back out k next (low - gap - 2 - len) l (rw d at b.1) q.1 q.2 in
-    (rw (p.0, q.0, below_spans low gap len next h) (i.0 ∙ ap To (omega arith)), rw (listed_range_step out at k, p.0, q.0, i.1))
+    (rw (p.0, q.0, below_spans low gap len next h) (i.0 ∙ ap Some (omega arith)), rw (listed_range_step out at k, p.0, q.0, i.1))
 
 -- every number that was read is in range
 pub listed_range : (s : List ℕ) (n at : ℕ) → in_range (listed s at n) ≡ true
@@ -54,13 +53,13 @@ module _ (s : List ℕ) (at v next : ℕ) where
   unfolding size_of
   within k a b c d = by_size v (λ (f : ℕ). 2 ^ f ≤ k) (λ h. a) (λ h i. b h) (λ h i. c h) d
 
-  in_form : (k : ℕ) → ((x : ℕ) → v ≡ x % values_in k → size_of v ≤ k) → form_at s at k ≡ Is v next → at + size_of v ≤ next
+  in_form : (k : ℕ) → ((x : ℕ) → v ≡ x % values_in k → size_of v ≤ k) → form_at s at k ≡ Some (v, next) → at + size_of v ≤ next
   in_form k h e = let r = found s at k _ e in omega (arith, r.ends, h _ r.value)
 
-  no_longer : number_at s at ≡ Is v next → at + size_of v ≤ next
+  no_longer : number_at s at ≡ Some (v, next) → at + size_of v ≤ next
   unfolding number_at values_in
   no_longer =
-      four (λ (f : ℕ). form_at s at (2 ^ f) ≡ Is v next → at + size_of v ≤ next)
+      four (λ (f : ℕ). form_at s at (2 ^ f) ≡ Some (v, next) → at + size_of v ≤ next)
       (in_form 1 (λ x q. within 1 (omega arith) (λ h. omega arith) (λ h. omega arith) (λ h. omega arith)))
       (in_form 2 (λ x q. within 2 (omega arith) (λ h. omega arith) (λ h. omega arith) (λ h. omega arith)))
       (in_form 4 (λ x q. within 4 (omega arith) (λ h. omega arith) (λ h. omega arith) (λ h. omega arith)))

@@ -5,22 +5,22 @@ use mathlib.Core.List.{List, [], ◌∷◌}
 use Prim.Native.Nat.{ℕ, zero, suc, ◌+◌, ◌-◌, ◌≤◌, ◌<◌}
 use native.Mathlib.Omega.{arith}
 use Rattle.wire.specs.Number.{number_at, size_of}
-use Rattle.wire.specs.declared.Number.TheVariants.{Is, CutShort}
 use Rattle.row.specs.Row.{size_all}
 use Rattle.ranges.specs.Listed.{listed}
 use Rattle.ranges.proofs.Listed.{listed_step}
+use Rattle.std.specs.Prelude.{Some, None}
 
 module _ (s : List ℕ) (at : ℕ) where
   pub listed_none : (n : ℕ) → n ≤ 0 → listed s at n ≡ []
   unfolding listed
   listed_none n h = let e : n ≡ 0 = omega arith in rw e
 
-  pub listed_cut : (n : ℕ) → number_at s at ≡ CutShort → listed s at n ≡ []
+  pub listed_cut : (n : ℕ) → number_at s at ≡ None → listed s at n ≡ []
   unfolding listed
   listed_cut zero e = refl
   listed_cut (suc n) e = rw e
 
-  module _ (n : ℕ) {v next : ℕ} (h : 0 < n) (e : number_at s at ≡ Is v next) where
+  module _ (n : ℕ) {v next : ℕ} (h : 0 < n) (e : number_at s at ≡ Some (v, next)) where
     pub listed_more : listed s at n ≡ v ∷ listed s next (n - 1)
     listed_more = let q : n ≡ n - 1 + 1 = omega arith in ap (listed s at) q ∙ listed_step s at (n - 1) e
 

@@ -7,23 +7,21 @@ ghost use Rattle.sizes.specs.Spelled.{body_bytes, Bounded};
 
 use fields::Parts;
 use layouts::Tail;
-use wire::Number;
 
-// How many bytes n numbers that stand in a row have in shortest form.
+// How many bytes n numbers that stand in a row have in shortest form, or those of them that can be read.
+#[tactic(auto, using(crate::proofs::Listing::listed_none, crate::proofs::Listing::listed_cut, crate::proofs::Listed::listed_size), unfolding(row::specs::Row::size_all))]
 fn listed_size(s: &[u8], from: usize, n: u64) -> usize
     requires { from ≤ length s.now }
     ensures { (result ≡ size_all (listed s.now from n)) × (result ≤ length s.now) }
 {
     let mut total: usize = 0;
     let mut place = from;
-    let mut left = n;
-    while 0 < left {
-        let Number::Is { value, next } = wire::read(s, place) else {
+    for _ in 0..n {
+        let Some((value, next)) = wire::read(s, place) else {
             return total;
         };
         total += wire::size(value);
         place = next;
-        left -= 1;
     }
     total
 }
@@ -36,8 +34,7 @@ pub(crate) fn size(tail: Tail, p: Parts, s: &[u8]) -> usize
     match tail {
         Tail::Nothing => 0,
         Tail::Counted => wire::size(p.len as u64) + p.len,
-        Tail::Remainder => p.len,
-        Tail::Eight => p.len,
+        Tail::Remainder | Tail::Eight => p.len,
         Tail::Identity => 1 + p.len + 16,
         Tail::Ranges => listed_size(s, p.at, 2 * p.c),
     }

@@ -1,3 +1,2 @@
-pub mod Shared
 pub mod Each
 pub mod Unique

@@ -1,16 +1,11 @@
 -- The records of the three spaces: Initial, Handshake, and one for 0-RTT with 1-RTT.
-use Rattle.std.specs.Prelude.{ℕ, Bool, ◌&&◌, List}
+use Rattle.std.specs.Prelude.{ℕ, Bool, ◌&&◌}
 use Rattle.records.specs.declared.Record.{Record}
 use Rattle.records.specs.Marks.{sound_of}
 use Rattle.records.specs.Ring.{taken_of}
-use Rattle.records.specs.Parts.{joined}
 use Rattle.kinds.specs.declared.Space.{Space}
 use Rattle.kinds.specs.declared.Space.TheVariants.{Initial, Handshake, Application}
 use Rattle.spaces.specs.declared.Records.{Records}
-
--- the three records by their words and tops, which the code is lent apart
-abbrev pub of_parts : List ℕ → ℕ → List ℕ → ℕ → List ℕ → ℕ → Records
-of_parts us i vs h ws a = record { initial = joined us i; handshake = joined vs h; application = joined ws a }
 
 abbrev pub record_of : Records → Space → Record
 record_of rs Initial = rs.initial

@@ -1,29 +1,21 @@
 // The gate of a call: 120 comes before all else, then 101.
 ghost use Rattle.std.specs.Prelude.{◌≡◌};
+ghost use Rattle.answers.specs.Outcome.{outcome_of};
 ghost use Rattle.steps.specs.Gate.{gate_of};
 
-use crate::Gate;
 use answers::Answer;
 use streams::Mark;
 
 // 120, then 101; `fits` says whether the table fits.
-pub fn gate(fits: bool, mark: Mark) -> Gate
-    ensures { result ≡ gate_of fits mark }
+#[tactic(auto, unfolding(crate::specs::Gate::gate_of))]
+pub fn gate(fits: bool, mark: Mark) -> Result<(), Answer>
+    ensures { result ≡ outcome_of (gate_of fits mark) }
 {
     if !fits {
-        return Gate {
-            passes: false,
-            answer: Answer::DoesNotFit,
-        };
+        return Err(Answer::DoesNotFit);
     }
     if !mark.is_open() {
-        return Gate {
-            passes: false,
-            answer: Answer::Closed,
-        };
+        return Err(Answer::Closed);
     }
-    Gate {
-        passes: true,
-        answer: Answer::Accepted,
-    }
+    Ok(())
 }

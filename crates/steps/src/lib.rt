@@ -11,23 +11,21 @@ use frames::Frame;
 use rules::View;
 use streams::Conn;
 
-// What a frame at a place asks for: the place of the entry that it looks at, the place after the frame, its type and what
-// it asks of the streams; or the code that refuses it as it stands.
+// What a frame at a place asks for: the place of the entry that it looks at, the place after the frame, its type, and what
+// it asks of the streams or the code that refuses it as it stands.
 #[derive(Clone, Copy)]
 pub struct Request {
     pub place: usize,
     pub next: usize,
     pub ty: u64,
-    pub answer: Answer,
-    pub view: View,
+    pub asks: Result<View, Answer>,
 }
 
-// What a frame leaves: the connection, its answer, whether the walk goes on, and where.
+// What a frame leaves: the connection, its answer, and the place after it, where a walk goes on while the connection is open.
 #[derive(Clone, Copy)]
 pub struct Stepped {
     pub conn: Conn,
     pub answer: Answer,
-    pub more: bool,
     pub next: usize,
 }
 
@@ -61,11 +59,4 @@ pub struct TookFrame {
     pub answer: Answer,
     pub shown: Shown,
     pub conn: Conn,
-}
-
-// Whether a call may go on, and the answer that refuses it.
-#[derive(Clone, Copy)]
-pub struct Gate {
-    pub passes: bool,
-    pub answer: Answer,
 }

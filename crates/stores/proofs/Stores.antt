@@ -1,18 +1,16 @@
 -- Whether the stores fit, as a test and as facts; and what the calls on the parts that are lent tell of all stores.
 -- Assumes nothing.
 use Prim.Native.Nat.{ℕ, ◌<◌}
-use mathlib.Core.Path.{◌≡◌, refl, ◌∙◌, ap, ap₂}
-use mathlib.Core.Bool.{Bool, true, false, and-eq-true_iff}
+use mathlib.Core.Path.{◌≡◌, ◌∙◌, ap, ap₂}
+use mathlib.Core.Bool.{true, and-eq-true_iff}
 use mathlib.Core.List.{List}
 use lib.ListN.{length}
 use lib.Dec.{ltb, eqb}
 use borrow.Author.Tests.{lt-ltb, eq-eqb, ltb-true, eqb-true}
-use Rattle.holding.specs.declared.Offered.{Offered}
-use Rattle.holding.specs.declared.Offered.TheVariants.{Outside}
-use Rattle.holding.specs.declared.Handed.{Handed}
-use Rattle.holding.specs.declared.Handed.TheVariants.{Bytes}
 use Rattle.holding.specs.Kept.{offered_of, ring_kept, marks_kept, handed_of, handed_out}
 use Rattle.stores.specs.Stores.{part_of, with_part, stores_fit, offered_in, rings_kept, marks_kept_in, handed_in, handed_out_in}
+use Rattle.std.specs.Prelude.{Option, Result}
+use Rattle.holding.specs.declared.OfferError.{OfferError}
 
 -- the test and the facts
 pub record Fit (rings marks : List ℕ) (place : ℕ) : Type 0 where
@@ -32,23 +30,12 @@ module _ (rings marks : List ℕ) (place : ℕ) where
       let b = (and-eq-true_iff (eqb (length marks) 12288) (ltb place 192)).0 a.1 in
       record { bytes = eqb-true _ _ a.0; words = eqb-true _ _ b.0; there = ltb-true _ _ b.1 }
 
-  pub fit_false : (Fit rings marks place → ⊥) → stores_fit rings marks place ≡ false
-  fit_false f = go (stores_fit rings marks place) refl
-    where
-      go : (b : Bool) → stores_fit rings marks place ≡ b → b ≡ false
-      go true e = absurd (f (fit_told e))
-      go false e = refl
-
   -- a read, as `hand` tells it and leaves the output
   module _ (read held : ℕ) (out : List ℕ) where
-    abbrev pub Hands : Handed → List ℕ → Type 0
+    abbrev pub Hands : Option ℕ → List ℕ → Type 0
     Hands a t = (a ≡ handed_in rings marks place read held out) × (t ≡ handed_out_in rings marks place read held out)
 
-    pub hands_none : (Fit rings marks place → ⊥) → Hands (Bytes 0) out
-    unfolding handed_in handed_out_in
-    hands_none f = let e = fit_false f in (simp e, simp e)
-
-    pub hands : Fit rings marks place → (r m : List ℕ) → r ≡ part_of 4096 rings place → m ≡ part_of 64 marks place → (a : Handed) (t : List ℕ)
+    pub hands : Fit rings marks place → (r m : List ℕ) → r ≡ part_of 4096 rings place → m ≡ part_of 64 marks place → (a : Option ℕ) (t : List ℕ)
         → a ≡ handed_of r m read held (length out) → t ≡ handed_out r m read held out → Hands a t
     unfolding handed_in handed_out_in
     hands f r m x y a t p q =
@@ -59,15 +46,11 @@ module _ (rings marks : List ℕ) (place : ℕ) where
 
   -- a frame, as `offer` tells it and leaves the stores
   module _ (read held : ℕ) (s : List ℕ) (from len offset : ℕ) where
-    abbrev pub Leaves : Offered → List ℕ → List ℕ → Type 0
+    abbrev pub Leaves : Result ℕ OfferError → List ℕ → List ℕ → Type 0
     Leaves a r m =
         (a ≡ offered_in rings marks place read held s from len offset) × ((r ≡ rings_kept rings marks place read held s from len offset) × (m ≡ marks_kept_in rings marks place read held s from len offset))
 
-    pub leaves_all : (Fit rings marks place → ⊥) → Leaves Outside rings marks
-    unfolding offered_in rings_kept marks_kept_in
-    leaves_all f = let e = fit_false f in (simp e, (simp e, simp e))
-
-    pub leaves : Fit rings marks place → (r m u v : List ℕ) → r ≡ part_of 4096 rings place → m ≡ part_of 64 marks place → (a : Offered) (x y : List ℕ)
+    pub leaves : Fit rings marks place → (r m u v : List ℕ) → r ≡ part_of 4096 rings place → m ≡ part_of 64 marks place → (a : Result ℕ OfferError) (x y : List ℕ)
         → a ≡ offered_of r m read held s from len offset → x ≡ ring_kept r m read held s from len offset → y ≡ marks_kept r m read held s from len offset
         → u ≡ with_part 4096 rings place x → v ≡ with_part 64 marks place y → Leaves a u v
     unfolding offered_in rings_kept marks_kept_in

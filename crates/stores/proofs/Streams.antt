@@ -9,12 +9,13 @@ use lib.ListN.{length, get_or}
 use Rattle.answers.specs.Choice.{◌⇒◌∣◌}
 use Rattle.places.specs.Places.{within}
 use Rattle.clashes.specs.Held.{byte, held_at}
-use Rattle.holding.specs.declared.Offered.TheVariants.{Outside, Holds}
 use Rattle.holding.specs.Kept.{offered_of, ring_kept, marks_kept}
 use Rattle.holding.proofs.Meaning.{is_holds, refused_leaves, ring_long, marks_long, held_after}
 use Rattle.stores.specs.Stores.{part_of, with_part, stores_fit, offered_in, rings_kept, marks_kept_in}
 use Rattle.stores.proofs.Parts.{part_long, with_long, own_part, other_part, same_part}
 use Rattle.stores.proofs.Stores.{fit_told}
+use Rattle.std.specs.Prelude.{Ok, Err}
+use Rattle.holding.specs.declared.OfferError.TheVariants.{Outside}
 
 module _ (rings marks : List ℕ) (place read held : ℕ) (s : List ℕ) (from len offset : ℕ) where
   abbrev ring_part : List ℕ
@@ -102,12 +103,12 @@ module _ (rings marks : List ℕ) (place read held : ℕ) (s : List ℕ) (from l
     held_other a b p = ap₂ (λ (x y : List ℕ). held_at x y a b p) rings_other marks_other
 
   -- a refusal leaves everything
-  pub refused_all : ((top : ℕ) → offered_in rings marks place read held s from len offset ≡ Holds top → ⊥)
+  pub refused_all : ((top : ℕ) → offered_in rings marks place read held s from len offset ≡ Ok top → ⊥)
       → (rings_kept rings marks place read held s from len offset ≡ rings) × (marks_kept_in rings marks place read held s from len offset ≡ marks)
   unfolding offered_in
   refused_all f = go (stores_fit rings marks place) refl f
     where
-      go : (b : Bool) → stores_fit rings marks place ≡ b → ((top : ℕ) → (b ⇒ offered_of (part_of 4096 rings place) (part_of 64 marks place) read held s from len offset ∣ Outside) ≡ Holds top → ⊥)
+      go : (b : Bool) → stores_fit rings marks place ≡ b → ((top : ℕ) → (b ⇒ offered_of (part_of 4096 rings place) (part_of 64 marks place) read held s from len offset ∣ Err Outside) ≡ Ok top → ⊥)
           → (rings_kept rings marks place read held s from len offset ≡ rings) × (marks_kept_in rings marks place read held s from len offset ≡ marks)
       go false e g = (rings_left e, marks_left e)
       go true e g =
@@ -117,13 +118,13 @@ module _ (rings marks : List ℕ) (place read held : ℕ) (s : List ℕ) (from l
           )
 
   -- after an offer that holds the frame's places from `read` on are held, with its bytes, and every other place of the stream holds what it held
-  pub held_own : (top : ℕ) → offered_in rings marks place read held s from len offset ≡ Holds top → (p : ℕ)
+  pub held_own : (top : ℕ) → offered_in rings marks place read held s from len offset ≡ Ok top → (p : ℕ)
       → held_at (part_of 4096 (rings_kept rings marks place read held s from len offset) place) (part_of 64 (marks_kept_in rings marks place read held s from len offset) place) read top p
       ≡ (within (max read offset) (offset + len) p ⇒ byte (get_or s (from + (p - offset)) 0) ∣ held_at (part_of 4096 rings place) (part_of 64 marks place) read held p)
   unfolding offered_in
   held_own top f p = go (stores_fit rings marks place) refl f
     where
-      go : (b : Bool) → stores_fit rings marks place ≡ b → (b ⇒ offered_of (part_of 4096 rings place) (part_of 64 marks place) read held s from len offset ∣ Outside) ≡ Holds top
+      go : (b : Bool) → stores_fit rings marks place ≡ b → (b ⇒ offered_of (part_of 4096 rings place) (part_of 64 marks place) read held s from len offset ∣ Err Outside) ≡ Ok top
           → held_at (part_of 4096 (rings_kept rings marks place read held s from len offset) place) (part_of 64 (marks_kept_in rings marks place read held s from len offset) place) read top p
           ≡ (within (max read offset) (offset + len) p ⇒ byte (get_or s (from + (p - offset)) 0) ∣ held_at (part_of 4096 rings place) (part_of 64 marks place) read held p)
       go false e x = absurd (false≢true (ap is_holds x))

@@ -11,11 +11,11 @@ pub offer_firm : Firm 3 offer.ps offer.r offering.Asked offering.Post
 offer_firm = record {
   asks_nothing = λ κs a. tt;
   one_outcome = λ κs a x y ws vs p q. λ i.
-      ((p.0 ∙ sym q.0) i, ((p.1.0 ∙ sym q.1.0) i, ((p.1.1 ∙ sym q.1.1) i, (tt, (tt, (tt, (tt, (tt, (tt, (tt, tt))))))))));
+      ((p.0 ∙ sym q.0) i, ((p.1.0 ∙ sym q.1.0) i, ((p.1.1 ∙ sym q.1.1) i, (tt, (tt, (tt, (tt, tt)))))));
 }
 
 pub hand_firm : Firm 3 hand.ps hand.r handing.Asked handing.Post
 hand_firm = record {
   asks_nothing = λ κs a. tt;
-  one_outcome = λ κs a x y ws vs p q. λ i. ((p.0 ∙ sym q.0) i, (tt, (tt, (tt, (tt, (tt, ((p.1 ∙ sym q.1) i, tt)))))));
+  one_outcome = λ κs a x y ws vs p q. λ i. ((p.0 ∙ sym q.0) i, (tt, (tt, (tt, (tt, ((p.1 ∙ sym q.1) i, tt))))));
 }

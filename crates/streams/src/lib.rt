@@ -2,7 +2,7 @@
 // local call may do to it is said by the crates above.
 #![tactic(auto)]
 
-ghost use Rattle.std.specs.Prelude.{◌≡◌, ◌<◌, max};
+ghost use Rattle.std.specs.Prelude.{◌≡◌, ◌<◌};
 ghost use Rattle.halves.specs.Stream.{half_of};
 ghost use Rattle.streams.specs.Conn.{is_open, opened_of, count_of, initial_of, marked_as, open_to, index_of, next_of, handed_out_of, limits_fit};
 
@@ -50,11 +50,7 @@ impl Mark {
     pub fn is_open(self) -> bool
         ensures { result ≡ is_open self }
     {
-        match self {
-            Mark::Open => true,
-            Mark::Code { answer: _, ty: _ } => false,
-            Mark::ByPeer => false,
-        }
+        matches!(self, Mark::Open)
     }
 }
 
@@ -71,25 +67,16 @@ fn index(space: Space) -> usize
 
 impl Limits {
     // None is above its ceiling.
+    #[tactic(auto, unfolding(crate::specs::Conn::limits_fit))]
     pub fn fit(self) -> bool
         ensures { result ≡ limits_fit self }
     {
-        if Conn::MOST_CREDIT < self.credit {
-            return false;
-        }
-        if Conn::MOST_STREAMS < self.counts[0] {
-            return false;
-        }
-        if Conn::MOST_STREAMS < self.counts[1] {
-            return false;
-        }
-        if Conn::MOST_CREDIT < self.initial[0] {
-            return false;
-        }
-        if Conn::MOST_CREDIT < self.initial[1] {
-            return false;
-        }
-        self.initial[2] <= Conn::MOST_CREDIT
+        self.credit <= Conn::MOST_CREDIT
+            && self.counts[0] <= Conn::MOST_STREAMS
+            && self.counts[1] <= Conn::MOST_STREAMS
+            && self.initial[0] <= Conn::MOST_CREDIT
+            && self.initial[1] <= Conn::MOST_CREDIT
+            && self.initial[2] <= Conn::MOST_CREDIT
     }
 
     // The initial credit of a stream of a half.
@@ -123,6 +110,7 @@ impl Conn {
     }
 
     // The stream count of a stream's half: what the peer may open, or what we opened.
+    #[tactic(auto, unfolding(crate::specs::Conn::count_of))]
     pub fn count_of(self, id: u64) -> u64
         ensures { result ≡ count_of self (half_of id) }
     {
@@ -148,18 +136,7 @@ impl Conn {
     pub fn marked(self, mark: Mark) -> Conn
         ensures { result ≡ marked_as self mark }
     {
-        let limits = self.limits;
-        let opened = self.opened;
-        let next = self.next;
-        let role = self.role;
-        Conn {
-            limits,
-            opened,
-            total: self.total,
-            next,
-            mark,
-            role,
-        }
+        Conn { mark, ..self }
     }
 
     // With the stream and all lower ordinals of its half open, and the total as given.
@@ -170,11 +147,12 @@ impl Conn {
         let half = s.half;
         let mut conn = self;
         conn.total = total;
-        conn.opened[half] = larger(self.opened[half], s.ordinal + 1);
+        conn.opened[half] = self.opened[half].max(s.ordinal + 1);
         conn
     }
 
     // Hands out the next number of a space, whatever the closing mark.
+    #[tactic(auto, unfolding(crate::specs::Conn::handed_out_of))]
     pub fn hand_out(self, space: Space) -> Called
         ensures { result ≡ handed_out_of self space }
     {
@@ -195,14 +173,4 @@ impl Conn {
             conn,
         }
     }
-}
-
-// The larger of two.
-pub fn larger(a: u64, b: u64) -> u64
-    ensures { result ≡ max a b }
-{
-    if a < b {
-        return b;
-    }
-    a
 }

@@ -12,17 +12,16 @@ use Rattle.answers.specs.Choice.{◌⇒◌∣◌}
 use Rattle.answers.proofs.Choice.{below_or_not}
 use Rattle.streams.specs.declared.Conn.{Conn}
 use Rattle.entries.specs.declared.Entry.{Entry}
-use Rattle.limits.specs.declared.fits.Summed.{Summed}
-use Rattle.limits.specs.declared.fits.Summed.TheVariants.{To, Unfit}
 use Rattle.entries.specs.Entry.{entry_at}
 use Rattle.streams.specs.Conn.{opened_of, initial_of}
 use Rattle.limits.specs.Fits.{entry_fits, conn_fits, sum_to, all_to, fits, summed_of, concluded_of}
 use Rattle.tables.specs.Table.{summed_to}
+use Rattle.std.specs.Prelude.{Option, Some, None}
 
 module _ (c : Conn) (t : List Entry) where
   -- the check of the first n entries, whatever their halves
-  unfoldable up_to : ℕ → Summed
-  up_to zero = To 0
+  unfoldable up_to : ℕ → Option ℕ
+  up_to zero = Some 0
   up_to (suc n) = summed_of c.limits.credit (opened_of c (n / 64)) (initial_of c.limits (n / 64)) (n % 64) (entry_at t n) (up_to n)
 
   abbrev each : ℕ → Bool
@@ -42,8 +41,8 @@ module _ (c : Conn) (t : List Entry) where
       rw (e, q, r, of_half ty n (omega arith)) refl
 
   -- a sum within the credit, all of whose entries fit; or none
-  step : (n : ℕ) (a p : Bool) → all_to n each ≡ a → each n ≡ p → up_to n ≡ (a && leb (sum_to n end) c.limits.credit ⇒ To (sum_to n end) ∣ Unfit)
-      → up_to (suc n) ≡ (all_to (suc n) each && leb (sum_to (suc n) end) c.limits.credit ⇒ To (sum_to (suc n) end) ∣ Unfit)
+  step : (n : ℕ) (a p : Bool) → all_to n each ≡ a → each n ≡ p → up_to n ≡ (a && leb (sum_to n end) c.limits.credit ⇒ Some (sum_to n end) ∣ None)
+      → up_to (suc n) ≡ (all_to (suc n) each && leb (sum_to (suc n) end) c.limits.credit ⇒ Some (sum_to (suc n) end) ∣ None)
   unfolding up_to summed_of all_to sum_to
   step n false p ea ep h = rw (h, ea) refl
   step n true false ea ep h =
@@ -55,7 +54,7 @@ module _ (c : Conn) (t : List Entry) where
       (λ k. rw (h, ea, le-leb (sum_to n end) c.limits.credit l, ep, lt-ltb c.limits.credit (sum_to n end + end n) k, lt-leb (sum_to n end + end n) c.limits.credit k) refl)
       (λ k. rw (h, ea, le-leb (sum_to n end) c.limits.credit l, ep, le-ltb c.limits.credit (sum_to n end + end n) k, le-leb (sum_to n end + end n) c.limits.credit k) refl))
 
-  summed : (n : ℕ) → up_to n ≡ (all_to n each && leb (sum_to n end) c.limits.credit ⇒ To (sum_to n end) ∣ Unfit)
+  summed : (n : ℕ) → up_to n ≡ (all_to n each && leb (sum_to n end) c.limits.credit ⇒ Some (sum_to n end) ∣ None)
   unfolding up_to all_to sum_to
   summed zero = rw (le-leb 0 c.limits.credit (omega arith)) refl
   summed (suc n) = step n (all_to n each) (each n) refl refl (summed n)
@@ -66,7 +65,7 @@ module _ (c : Conn) (t : List Entry) where
   above h = rw (lt-leb c.total c.limits.credit h) refl
 
   ends : (a p q : Bool) → all_to 192 each ≡ a → leb (sum_to 192 end) c.limits.credit ≡ p → eqb c.total (sum_to 192 end) ≡ q
-      → concluded_of c (a && p ⇒ To (sum_to 192 end) ∣ Unfit) ≡ a && (q && conn_fits c)
+      → concluded_of c (a && p ⇒ Some (sum_to 192 end) ∣ None) ≡ a && (q && conn_fits c)
   unfolding concluded_of
   ends false p q ea ep eq = refl
   ends true true q ea ep eq = rw eq refl
@@ -78,13 +77,13 @@ module _ (c : Conn) (t : List Entry) where
   concluded h = rw (summed 192, eq-eqb (length t) 192 h) (ends (all_to 192 each) (leb (sum_to 192 end) c.limits.credit) (eqb c.total (sum_to 192 end)) refl refl refl)
 
   -- the three halves one after the other
-  abbrev pub first : Summed
-  first = summed_to t 0 c.limits.credit (opened_of c 0) (initial_of c.limits 0) (To 0) 64
+  abbrev pub first : Option ℕ
+  first = summed_to t 0 c.limits.credit (opened_of c 0) (initial_of c.limits 0) (Some 0) 64
 
-  abbrev pub second : Summed
+  abbrev pub second : Option ℕ
   second = summed_to t 64 c.limits.credit (opened_of c 1) (initial_of c.limits 1) first 64
 
-  abbrev pub third : Summed
+  abbrev pub third : Option ℕ
   third = summed_to t 128 c.limits.credit (opened_of c 2) (initial_of c.limits 2) second 64
 
   of_first : first ≡ up_to 64
@@ -92,7 +91,7 @@ module _ (c : Conn) (t : List Entry) where
   of_first = of_half 0 64 (omega arith)
 
   all_three : third ≡ up_to 192
-  all_three = ap (λ (x : Summed). summed_to t 128 c.limits.credit (opened_of c 2) (initial_of c.limits 2) x 64) (ap (λ (x : Summed). summed_to t 64 c.limits.credit (opened_of c 1) (initial_of c.limits 1) x 64) of_first ∙ b) ∙ d
+  all_three = ap (λ (x : Option ℕ). summed_to t 128 c.limits.credit (opened_of c 2) (initial_of c.limits 2) x 64) (ap (λ (x : Option ℕ). summed_to t 64 c.limits.credit (opened_of c 1) (initial_of c.limits 1) x 64) of_first ∙ b) ∙ d
     where
       b : summed_to t 64 c.limits.credit (opened_of c 1) (initial_of c.limits 1) (up_to 64) 64 ≡ up_to 128
       b = of_half 1 64 (omega arith)

@@ -9,14 +9,13 @@ use borrow.Author.Tests.{le-leb, lt-leb, lt-ltb, le-ltb, eqb-true}
 use lib.Dec.{ltb, eqb}
 use Rattle.answers.proofs.Choice.{below_or_not}
 use Rattle.entries.specs.declared.Entry.{Entry}
-use Rattle.limits.specs.declared.fits.Summed.{Summed}
-use Rattle.limits.specs.declared.fits.Summed.TheVariants.{To, Unfit}
 use Rattle.entries.specs.Entry.{most_credit, entry_at}
 use Rattle.limits.specs.Fits.{summed_of}
 use Rattle.entries.specs.Fitting.{is_fresh}
 use Rattle.limits.specs.Rest.{opened_in, rest_of}
 use Rattle.entries.proofs.Fresh.{fresh_fits, changed_unfit}
 use Rattle.tables.specs.Table.{summed_to, untouched_to}
+use Rattle.std.specs.Prelude.{Option, Some, None}
 
 -- no more than 64 are opened
 pub opened_within : (opened : ℕ) → opened_in opened ≤ 64
@@ -33,11 +32,11 @@ no_end e init f = eqb-true e.end 0 ((and-eq-true_iff (eqb e.end 0) _).0 ((and-eq
 
 module _ (credit opened init : ℕ) where
   -- an unopened entry after a sum
-  unopened : (m : ℕ) (e : Entry) (sum : ℕ) → opened ≤ m → summed_of credit opened init m e (To sum) ≡ rest_of credit 0 init (To sum) (is_fresh e init)
+  unopened : (m : ℕ) (e : Entry) (sum : ℕ) → opened ≤ m → summed_of credit opened init m e (Some sum) ≡ rest_of credit 0 init (Some sum) (is_fresh e init)
   unfolding summed_of rest_of
   unopened m e sum h = go (is_fresh e init) refl
     where
-      go : (b : Bool) → is_fresh e init ≡ b → summed_of credit opened init m e (To sum) ≡ rest_of credit 0 init (To sum) b
+      go : (b : Bool) → is_fresh e init ≡ b → summed_of credit opened init m e (Some sum) ≡ rest_of credit 0 init (Some sum) b
       go false f = rw (changed_unfit opened init m e h f) refl
       go true f =
           let z : sum + e.end ≡ sum = omega (arith, no_end e init f) in
@@ -46,41 +45,41 @@ module _ (credit opened init : ℕ) where
           (λ p. rw (fresh_fits opened init m e h f, le-leb init most_credit p, le-ltb most_credit init p, z) refl)
 
   -- one more after the rest so far
-  further : (m : ℕ) (e : Entry) (s : Summed) (u : Bool) → opened ≤ m → summed_of credit opened init m e (rest_of credit 0 init s u) ≡ rest_of credit 0 init s (u && is_fresh e init)
+  further : (m : ℕ) (e : Entry) (s : Option ℕ) (u : Bool) → opened ≤ m → summed_of credit opened init m e (rest_of credit 0 init s u) ≡ rest_of credit 0 init s (u && is_fresh e init)
   unfolding summed_of rest_of
-  further m e Unfit u h = refl
-  further m e (To sum) false h = refl
-  further m e (To sum) true h = go (ltb most_credit init) (ltb credit sum) (is_fresh e init) refl refl refl
+  further m e None u h = refl
+  further m e (Some sum) false h = refl
+  further m e (Some sum) true h = go (ltb most_credit init) (ltb credit sum) (is_fresh e init) refl refl refl
     where
-      go : (p q b : Bool) → ltb most_credit init ≡ p → ltb credit sum ≡ q → is_fresh e init ≡ b → summed_of credit opened init m e (rest_of credit 0 init (To sum) true) ≡ rest_of credit 0 init (To sum) (is_fresh e init)
+      go : (p q b : Bool) → ltb most_credit init ≡ p → ltb credit sum ≡ q → is_fresh e init ≡ b → summed_of credit opened init m e (rest_of credit 0 init (Some sum) true) ≡ rest_of credit 0 init (Some sum) (is_fresh e init)
       go true q true ep eq eb = rw (ep, eb) refl
       go true q false ep eq eb = rw (ep, eb) refl
       go false true true ep eq eb = rw (ep, eq, eb) refl
       go false true false ep eq eb = rw (ep, eq, eb) refl
       go false false b ep eq eb = ap (summed_of credit opened init m e) within ∙ unopened m e sum h
         where
-          within : rest_of credit 0 init (To sum) true ≡ To sum
+          within : rest_of credit 0 init (Some sum) true ≡ Some sum
           within = rw (ep, eq) refl
 
   -- the first of the rest
-  begun : (m : ℕ) (e : Entry) (s : Summed) → opened ≤ m → summed_of credit opened init m e s ≡ rest_of credit 0 init s (is_fresh e init)
+  begun : (m : ℕ) (e : Entry) (s : Option ℕ) → opened ≤ m → summed_of credit opened init m e s ≡ rest_of credit 0 init s (is_fresh e init)
   unfolding summed_of rest_of
-  begun m e Unfit h = refl
-  begun m e (To sum) h = unopened m e sum h
+  begun m e None h = refl
+  begun m e (Some sum) h = unopened m e sum h
 
   -- where there is a rest, it does not matter where it begins; and where there is none, nothing is added
-  some_rest : (n : ℕ) (s : Summed) (u : Bool) → n < 64 → rest_of credit n init s u ≡ rest_of credit 0 init s u
+  some_rest : (n : ℕ) (s : Option ℕ) (u : Bool) → n < 64 → rest_of credit n init s u ≡ rest_of credit 0 init s u
   unfolding rest_of
-  some_rest n Unfit u h = refl
-  some_rest n (To sum) u h = rw (lt-leb 64 n h) refl
+  some_rest n None u h = refl
+  some_rest n (Some sum) u h = rw (lt-leb 64 n h) refl
 
-  no_rest : (n : ℕ) (s : Summed) (u : Bool) → 64 ≤ n → rest_of credit n init s u ≡ s
+  no_rest : (n : ℕ) (s : Option ℕ) (u : Bool) → 64 ≤ n → rest_of credit n init s u ≡ s
   unfolding rest_of
-  no_rest n Unfit u h = refl
-  no_rest n (To sum) u h = rw (le-leb 64 n h) refl
+  no_rest n None u h = refl
+  no_rest n (Some sum) u h = rw (le-leb 64 n h) refl
 
-  module _ (t : List Entry) (from : ℕ) (before : Summed) where
-    abbrev to : ℕ → Summed
+  module _ (t : List Entry) (from : ℕ) (before : Option ℕ) where
+    abbrev to : ℕ → Option ℕ
     to = summed_to t from credit opened init before
 
     steps : (n k : ℕ) → opened ≤ n → to (n + suc k) ≡ rest_of credit 0 init (to n) (untouched_to t (from + n) init (suc k))

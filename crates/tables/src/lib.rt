@@ -10,7 +10,7 @@ ghost use Rattle.tables.specs.Table.{summed_to, untouched_to};
 
 use entries::Entry;
 use kinds::Role;
-use limits::fits::Summed;
+use limits::fits::Part;
 use opening::Opened;
 use streams::{Conn, Limits};
 
@@ -19,38 +19,31 @@ const SECOND: usize = Conn::ENTRIES / 3;
 
 const THIRD: usize = 2 * SECOND;
 
-// Whether the entries of a half from an ordinal up to the last are as opening sets them; the first of them is at a place.
+// Whether the entries of a half from an ordinal up to the last are as opening sets them; its first entry is at a place.
+#[tactic(auto, unfolding(crate::specs::Table::untouched_to))]
 fn rest(t: &[Entry], from: usize, ordinal: u64, initial: u64) -> bool
-    requires { from + (64 - ordinal) ≤ length t.now }
-    ensures { result ≡ untouched_to t.now from initial (64 - ordinal) }
+    requires { (from + 64 ≤ length t.now) × (ordinal ≤ 64) }
+    ensures { result ≡ untouched_to t.now (from + ordinal) initial (64 - ordinal) }
 {
     let mut same = true;
-    let mut n = ordinal;
-    let mut i = from;
-    while n < Conn::MOST_STREAMS {
-        same = limits::rest::untouched(same, t[i], initial);
-        n += 1;
-        i += 1;
+    for n in ordinal..Conn::MOST_STREAMS {
+        same = limits::rest::untouched(same, t[from + n as usize], initial);
     }
     same
 }
 
 // The check of the 64 entries of a half, from a place on: the opened ones one by one, the rest together.
-fn part(t: &[Entry], from: usize, credit: u64, opened: u64, initial: u64, before: Summed) -> Summed
+#[tactic(auto, unfolding(crate::specs::Table::summed_to))]
+fn part(t: &[Entry], from: usize, p: Part, before: Option<u64>) -> Option<u64>
     requires { from + 64 ≤ length t.now }
-    ensures { result ≡ summed_to t.now from credit opened initial before 64 }
+    ensures { result ≡ summed_to t.now from p.credit p.opened p.initial before 64 }
 {
-    let to = limits::rest::opened_in(opened);
+    let to = limits::rest::opened_in(p.opened);
     let mut sum = before;
-    let mut n: u64 = 0;
-    let mut i = from;
-    while n < to {
-        sum = limits::fits::one_more(credit, opened, initial, n, t[i], sum);
-        n += 1;
-        i += 1;
+    for n in 0..to {
+        sum = limits::fits::one_more(p, n, t[from + n as usize], sum);
     }
-    let same = rest(t, i, n, initial);
-    limits::rest::with_rest(credit, n, initial, sum, same)
+    limits::rest::with_rest(p, to, sum, rest(t, from, to, p.initial))
 }
 
 // Whether the connection and its table fit: no 120.
@@ -60,24 +53,20 @@ pub fn fits(c: Conn, t: &[Entry]) -> bool
     if t.len() != Conn::ENTRIES {
         return false;
     }
-    let p = limits::fits::part_of(c, 0);
-    let a = part(t, 0, p.credit, p.opened, p.initial, Summed::To { sum: 0 });
-    let q = limits::fits::part_of(c, 1);
-    let b = part(t, SECOND, q.credit, q.opened, q.initial, a);
-    let r = limits::fits::part_of(c, 2);
-    let d = part(t, THIRD, r.credit, r.opened, r.initial, b);
-    limits::fits::conclude(c, d)
+    let first = part(t, 0, limits::fits::part_of(c, 0), Some(0));
+    let second = part(t, SECOND, limits::fits::part_of(c, 1), first);
+    let third = part(t, THIRD, limits::fits::part_of(c, 2), second);
+    limits::fits::conclude(c, third)
 }
 
 // Sets the first n entries as opening does.
+#[tactic(auto, unfolding(crate::specs::Opened::filled_to))]
 fn fill(t: &mut [Entry], n: usize, limits: Limits)
     requires { n ≤ length t.old }
     ensures { t.new ≡ filled_to n t.old limits }
 {
-    let mut i: usize = 0;
-    while i < n {
+    for i in 0..n {
         t[i] = opening::entry(i, limits);
-        i += 1;
     }
 }
 

@@ -9,9 +9,9 @@ use lib.ListN.{length, get_or, length-append, get_or-append}
 use Rattle.answers.proofs.Choice.{below_or_not}
 use Rattle.text.specs.Text.{every}
 use Rattle.text.specs.Decimal.{digits_of, decimal_of, value_from, is_digit, parsed_of}
-use Rattle.text.specs.declared.decimal.Parsed.TheVariants.{Is}
 use Rattle.text.proofs.Digits.{a_digit, is_number}
 use Rattle.text.proofs.Spelling.{more, fewer, no_digits}
+use Rattle.std.specs.Prelude.{Some}
 
 value_append : (v : ℕ) (a b : List ℕ) → value_from v (a ++ b) ≡ value_from (value_from v a) b
 unfolding value_from
@@ -46,7 +46,7 @@ digits_back (suc k) n h = below_or_not 0 n
     (λ p. let e : n ≡ 0 = omega arith in rw (e, no_digits) (refl, refl))
 
 -- the law: a number of 64 bits reads back
-pub decimal_back : (n : ℕ) → n < 2 ^ 64 → parsed_of (decimal_of n) ≡ Is n
+pub decimal_back : (n : ℕ) → n < 2 ^ 64 → parsed_of (decimal_of n) ≡ Some n
 unfolding decimal_of
 decimal_back n h =
     let b = digits_back 19 (n / 10) (omega arith) in

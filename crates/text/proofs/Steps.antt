@@ -1,14 +1,18 @@
 -- What is left of a text from a place on: the character there and the rest; and nothing at its end.
 -- Assumes nothing.
-use mathlib.Core.Path.{◌≡◌, sym, ◌∙◌, ap}
+use mathlib.Core.Path.{◌≡◌, sym, ◌∙◌}
 use mathlib.Core.Bool.{Bool, ◌&&◌}
 use mathlib.Core.List.{List, [], ◌∷◌}
 use Prim.Native.Nat.{ℕ, ◌+◌, ◌-◌, ◌≤◌, ◌<◌}
 use native.Mathlib.Numerals.{add-one}
 use native.Mathlib.Omega.{arith}
 use lib.Dec.{leb}
-use lib.ListN.{length, get_or, drop, set, drop_of_length-le}
+use lib.ListN.{length, get_or, drop, drop_of_length-le}
+use borrow.Rule.Slice.PartMut.{put_mid}
 use lib.Seq.{sets, drop-cons}
+use Rattle.std.proofs.lemmas.List.Edits.{sets-eq}
+use Rattle.std.proofs.lemmas.List.{drop-drop}
+use mathlib.Core.List.{append_assoc}
 use borrow.Author.Tests.{le-leb, lt-leb}
 use Rattle.answers.proofs.Choice.{below_or_not}
 use Rattle.text.specs.Text.{every}
@@ -21,9 +25,11 @@ module _ (l : List ℕ) (i : ℕ) (h : i < length l) where
   unfolding every
   every_step test = rw step
 
-  -- one character more of a copy
-  pub copied : (out : List ℕ) (at : ℕ) → sets (set out (at + i) (get_or l i 0)) (at + (i + 1)) (drop (i + 1) l) ≡ sets out (at + i) (drop i l)
-  copied out at = rw step (ap (λ (k : ℕ). sets (set out (at + i) (get_or l i 0)) k (drop (i + 1) l)) (omega arith))
+-- a text in the place of as many bytes
+pub copied : (out : List ℕ) (at : ℕ) (l : List ℕ) → at + length l ≤ length out → put_mid at (at + length l - at) out l ≡ sets out at l
+copied out at l h =
+    let e : at + length l - at ≡ length l = omega arith in
+    rw (sets-eq l out at h, append_assoc, e, drop-drop)
 
 pub ended : (l : List ℕ) (i : ℕ) → length l ≤ i → drop i l ≡ []
 ended l i h = drop_of_length-le l h

@@ -1,9 +1,7 @@
 -- Decimal digits, as the characters 48 to 57: a number of 64 bits in them, and what a text of them is.
-use Rattle.std.specs.Prelude.{ℕ, zero, suc, ◌+◌, ◌*◌, ◌-◌, ◌/◌, ◌%◌, ◌^◌, Bool, not, ◌&&◌, List, [], ◌∷◌, ◌++◌, length, leb, ltb, eqb}
+use Rattle.std.specs.Prelude.{ℕ, zero, suc, ◌+◌, ◌*◌, ◌-◌, ◌/◌, ◌%◌, ◌^◌, Bool, not, ◌&&◌, List, [], ◌∷◌, ◌++◌, length, leb, ltb, eqb, Option, Some, None}
 use Rattle.answers.specs.Choice.{◌⇒◌∣◌}
 use Rattle.text.specs.Text.{every}
-use Rattle.text.specs.declared.decimal.Parsed.{Parsed}
-use Rattle.text.specs.declared.decimal.Parsed.TheVariants.{Is, Wrong}
 
 -- the digits of n, the highest first, none for 0: all of them, if they are no more than k
 unfoldable pub digits_of : ℕ → ℕ → List ℕ
@@ -25,9 +23,9 @@ unfoldable pub is_digit : ℕ → Bool
 is_digit c = leb 48 c && leb c 57
 
 -- what a text is: one or more digits with a value that 64 bits hold, or nothing of the kind
-unfoldable pub parsed_of : List ℕ → Parsed
+unfoldable pub parsed_of : List ℕ → Option ℕ
 parsed_of s =
-    eqb (length s) 0 ⇒ Wrong
-    ∣ not (every is_digit s) ⇒ Wrong
-    ∣ ltb (2 ^ 64 - 1) (value_from 0 s) ⇒ Wrong
-    ∣ Is (value_from 0 s)
+    eqb (length s) 0 ⇒ None
+    ∣ not (every is_digit s) ⇒ None
+    ∣ ltb (2 ^ 64 - 1) (value_from 0 s) ⇒ None
+    ∣ Some (value_from 0 s)

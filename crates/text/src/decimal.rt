@@ -4,20 +4,10 @@ ghost use Rattle.wire.specs.Writing.{Bytes, writes};
 ghost use Rattle.text.specs.Decimal.{decimal_of, parsed_of};
 
 use crate::put;
-use wire::Wrote;
-
-// What a text is, read as a number: its value, or none that 64 bits hold.
-#[derive(Drop)]
-pub enum Parsed {
-    Is { value: u64 },
-    Wrong,
-}
-
-// The largest number: 2^64-1.
-const MOST: u64 = 18446744073709551615;
+use answers::Answer;
 
 // Writes a number at a place, in no more digits than it has. A refusal leaves the output untouched.
-pub fn write(out: &mut [u8], at: usize, n: u64) -> Wrote
+pub fn write(out: &mut [u8], at: usize, n: u64) -> Result<usize, Answer>
     ensures { (result, out.new) ≡ writes (Bytes (decimal_of n)) out.old at }
 {
     let mut digits = [0u8; 20];
@@ -32,29 +22,23 @@ pub fn write(out: &mut [u8], at: usize, n: u64) -> Wrote
     put::bytes(out, at, &digits[i..])
 }
 
-// Reads a text that is digits and nothing else.
-pub fn read(s: &[u8]) -> Parsed
+// Reads a text that is digits and nothing else: its value, or nothing where 64 bits hold none.
+pub fn read(s: &[u8]) -> Option<u64>
     ensures { result ≡ parsed_of s.now }
 {
-    if s.len() == 0 {
-        return Parsed::Wrong;
+    if s.is_empty() {
+        return None;
     }
     let mut value: u64 = 0;
-    let mut i = 0;
-    while i < s.len() {
-        let c = s[i];
-        if c < 48 {
-            return Parsed::Wrong;
+    for &c in s {
+        if !c.is_ascii_digit() {
+            return None;
         }
-        if 57 < c {
-            return Parsed::Wrong;
-        }
-        let digit = (c - 48) as u64;
-        if (MOST - digit) / 10 < value {
-            return Parsed::Wrong;
+        let digit = u64::from(c - b'0');
+        if (u64::MAX - digit) / 10 < value {
+            return None;
         }
         value = value * 10 + digit;
-        i += 1;
     }
-    Parsed::Is { value: value }
+    Some(value)
 }

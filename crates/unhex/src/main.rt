@@ -5,60 +5,56 @@
 
 mod say;
 
-use dumps::Taken;
+use dumps::{DumpError, Taken};
 use std::io;
 use std::io::Read;
 
-// How far the text is read: the first digit of a byte that has begun (16: none), the place of what comes next, and
-// whether there may be more to read.
-#[derive(Drop)]
+// How far the text is read: the first digit of a byte that has begun, and the place of what comes next.
+#[derive(Clone, Copy)]
 struct Progress {
-    half: u8,
+    half: Option<u8>,
     place: u64,
-    more: bool,
 }
 
-fn stop(now: Progress) -> Progress {
-    Progress {
-        half: now.half,
-        place: now.place,
-        more: false,
-    }
-}
-
-// Takes a piece: its bytes go out before anything is said of it, and where they cannot, the program ends with the error.
-fn piece(rt: &impl Print, err: &impl Print, now: Progress, s: &[u8]) -> io::Result<Progress> {
+// Takes a piece, and answers how far the text is read where there may be more: its bytes go out before anything is said
+// of it, and where they cannot, the program ends with the error.
+fn piece(
+    rt: &impl Print,
+    err: &impl Print,
+    now: Progress,
+    s: &[u8],
+) -> io::Result<Option<Progress>> {
     let mut out = [0u8; 4096];
-    let taken = dumps::take(now.half, s, &mut out);
-    match taken {
-        Taken::All { half, len } => {
-            let sent = say::bytes(rt, &out, len)?;
-            Ok(Progress {
-                half,
-                place: say::later(now.place, s.len() as u64),
-                more: sent,
-            })
+    match dumps::take(now.half, s, &mut out) {
+        Ok(Taken { half, len }) => {
+            say::bytes(rt, &out, len)?;
+            let place = say::later(now.place, s.len() as u64);
+            Ok(Some(Progress { half, place }))
         },
-        Taken::Wrong { at, half, len } => {
+        Err(DumpError::Wrong { at, half, len }) => {
             say::bytes(rt, &out, len)?;
             say::wrong(err, say::later(now.place, at as u64), half)?;
-            Ok(stop(now))
+            Ok(None)
         },
         // no piece is longer than the output
-        Taken::NoRoom => Ok(stop(now)),
+        Err(DumpError::NoRoom) => Ok(None),
     }
 }
 
 // The end of the text: a byte that has begun lacks its second digit.
-fn end(err: &impl Print, now: Progress) -> io::Result<Progress> {
-    if now.half < 16 {
+fn end(err: &impl Print, now: Progress) -> io::Result<Option<Progress>> {
+    if now.half.is_some() {
         say::wrong(err, now.place, now.half)?;
     }
-    Ok(stop(now))
+    Ok(None)
 }
 
 // Reads once, and takes what came.
-fn some(rt: &(impl Input + Print), err: &impl Print, now: Progress) -> io::Result<Progress> {
+fn some(
+    rt: &(impl Input + Print),
+    err: &impl Print,
+    now: Progress,
+) -> io::Result<Option<Progress>> {
     let mut chunk = [0u8; 4096];
     let n = rt.reader().read(&mut chunk)?;
     if n == 0 {
@@ -71,15 +67,14 @@ fn some(rt: &(impl Input + Print), err: &impl Print, now: Progress) -> io::Resul
 fn main(rt: HostRuntime) -> io::Result<()> {
     let err = rt.stderr();
     let mut now = Progress {
-        half: 16,
+        half: None,
         place: 0,
-        more: true,
     };
     for _ in 0..u64::MAX {
-        now = some(&rt, &err, now)?;
-        if !now.more {
+        let Some(next) = some(&rt, &err, now)? else {
             break;
-        }
+        };
+        now = next;
     }
     Ok(())
 }

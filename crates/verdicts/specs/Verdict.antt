@@ -1,5 +1,5 @@
 -- The verdict on a frame, for a connection and ONE entry: the answer, and what an accepted frame leaves. A refused frame changes nothing but the closing mark.
-use Rattle.std.specs.Prelude.{ℕ, ◌+◌, ◌-◌, leb}
+use Rattle.std.specs.Prelude.{ℕ, ◌+◌, ◌-◌, leb, Result, Ok, Err}
 use Rattle.answers.specs.Choice.{◌⇒◌∣◌}
 use Rattle.answers.specs.Answers.{accepts}
 use Rattle.answers.specs.declared.Answer.{Answer}
@@ -41,6 +41,12 @@ entry_heard e (ForSender id) = e
 entry_heard e (Acks space largest) = e
 entry_heard e Closes = e
 entry_heard e Nothing = e
+
+-- both where the answer accepts, or the answer that refuses
+abbrev pub heard_of : Conn → Entry → View → Result (Conn × Entry) Answer
+heard_of c e v =
+    accepts (verdict_of c e v) ⇒ Ok (conn_heard c e v, entry_heard e v)
+    ∣ Err (verdict_of c e v)
 
 -- accepted, with the connection and the entry as given; or refused, and the connection closes with the code and the type of the frame
 unfoldable pub settled_of : Answer → Conn → Entry → ℕ → Conn → Entry → Judged

@@ -3,8 +3,7 @@
 
 ghost use Rattle.std.specs.Prelude.{◌≡◌};
 ghost use Rattle.entries.specs.Entry.{reached};
-ghost use Rattle.rules.specs.declared.View.TheVariants.{Ends};
-ghost use Rattle.verdicts.specs.Verdict.{settled_of, judged_of};
+ghost use Rattle.verdicts.specs.Verdict.{heard_of, judged_of};
 
 use answers::Answer;
 use entries::Entry;
@@ -20,83 +19,62 @@ pub struct Judged {
 }
 
 // An entry after an accepted STREAM or RESET_STREAM frame.
+#[tactic(auto, unfolding(entries::specs::Entry::reached))]
 fn after(e: Entry, end: u64, fin: bool) -> Entry
     ensures { result ≡ reached e end fin }
 {
-    let furthest = streams::larger(e.end, end);
-    if fin {
-        return Entry {
-            credit: e.credit,
-            end: furthest,
-            size: end,
-        };
-    }
     Entry {
-        credit: e.credit,
-        end: furthest,
-        size: e.size,
+        end: e.end.max(end),
+        size: if fin { end } else { e.size },
+        ..e
     }
 }
 
-// An answer that leaves the connection and the entry as given if it accepts, and else closes the connection.
-fn settled(answer: Answer, c: Conn, e: Entry, ty: u64, conn: Conn, entry: Entry) -> Judged
-    ensures { result ≡ settled_of answer c e ty conn entry }
+// What a frame makes of an open connection whose table fits, and of the entry; or the answer that refuses it.
+#[tactic(auto, unfolding(crate::specs::Verdict::verdict_of, crate::specs::Verdict::conn_heard, crate::specs::Verdict::entry_heard))]
+fn heard(c: Conn, e: Entry, view: View) -> Result<(Conn, Entry), Answer>
+    ensures { result ≡ heard_of c e view }
 {
-    let Answer::Accepted = answer else {
-        return Judged {
-            answer,
-            conn: c.marked(Mark::Code { answer, ty }),
-            entry: e,
-        };
-    };
-    Judged {
-        answer: Answer::Accepted,
-        conn,
-        entry,
+    match view {
+        View::Ends { id, end, fin } => {
+            rules::ends(c, e, id, end, fin)?;
+            let total = c.total + rules::growth(e.end, end);
+            Ok((c.open_to(id, total), after(e, end, fin)))
+        },
+        View::Blocks { id } => {
+            rules::blocked(c, id)?;
+            Ok((c.open_to(id, c.total), e))
+        },
+        View::ForSender { id } => {
+            rules::for_sender(c, id)?;
+            Ok((c.open_to(id, c.total), e))
+        },
+        View::Acks { space, largest } => {
+            if c.next_of(space) <= largest {
+                return Err(Answer::ProtocolViolation);
+            }
+            Ok((c, e))
+        },
+        View::Closes => Ok((c.marked(Mark::ByPeer), e)),
+        View::Nothing => Ok((c, e)),
     }
 }
 
-// The verdict on a frame of the type `ty`, on an open connection whose table fits.
+// The verdict on a frame of the type `ty`.
+#[tactic(auto, unfolding(crate::specs::Verdict::judged_of, crate::specs::Verdict::settled_of))]
 pub fn judge(c: Conn, e: Entry, ty: u64, view: View) -> Judged
     ensures { result ≡ judged_of c e ty view }
 {
-    match view {
-        View::Ends { id, end, fin } => judge_ends(c, e, ty, id, end, fin),
-        View::Blocks { id } => settled(rules::blocked(c, id), c, e, ty, c.open_to(id, c.total), e),
-        View::ForSender { id } => settled(
-            rules::for_sender(c, id),
-            c,
-            e,
-            ty,
-            c.open_to(id, c.total),
-            e,
-        ),
-        View::Acks { space, largest } => {
-            if c.next_of(space) <= largest {
-                return settled(Answer::ProtocolViolation, c, e, ty, c, e);
-            }
-            settled(Answer::Accepted, c, e, ty, c, e)
+    match heard(c, e, view) {
+        Ok((conn, entry)) => Judged {
+            answer: Answer::Accepted,
+            conn,
+            entry,
         },
-        View::Closes => settled(Answer::Accepted, c, e, ty, c.marked(Mark::ByPeer), e),
-        View::Nothing => settled(Answer::Accepted, c, e, ty, c, e),
-    }
-}
-
-// A STREAM or RESET_STREAM frame.
-fn judge_ends(c: Conn, e: Entry, ty: u64, id: u64, end: u64, fin: bool) -> Judged
-    ensures { result ≡ judged_of c e ty (Ends id end fin) }
-{
-    let answer = rules::ends(c, e, id, end, fin);
-    let Answer::Accepted = answer else {
-        return Judged {
+        Err(answer) => Judged {
             answer,
             conn: c.marked(Mark::Code { answer, ty }),
             entry: e,
-        };
-    };
-    Judged {
-        answer: Answer::Accepted,
-        conn: c.open_to(id, c.total + rules::growth(e.end, end)),
-        entry: after(e, end, fin),
+        },
     }
 }

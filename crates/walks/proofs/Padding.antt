@@ -1,5 +1,6 @@
 -- PADDING bytes are passed at once where the packet may carry them: each is a frame that changes nothing, so that the walk after them is the walk from where they begin.
 -- Assumes nothing.
+use Rattle.std.specs.Prelude.{Ok}
 use mathlib.Core.Path.{◌≡◌, refl, sym, ◌∙◌}
 use mathlib.Core.Bool.{Bool, true, false, ◌&&◌, and-eq-true_iff}
 use mathlib.Core.List.{List}
@@ -39,24 +40,24 @@ reached k c t s at kind = bare (walk_from k c t s at kind)
 
 module _ (s : List ℕ) (kind : Kind) (c : Conn) (t : List Entry) where
   -- what a PADDING byte asks, and what it leaves
-  asks : admitted c.role kind 0 ≡ true → (at : ℕ) → at < length s → get_or s at 0 ≡ 0 → request_at c.role s at kind ≡ record { place = place_of 0; next = at + 1; ty = 0; answer = Accepted; view = Nothing }
+  asks : admitted c.role kind 0 ≡ true → (at : ℕ) → at < length s → get_or s at 0 ≡ 0 → request_at c.role s at kind ≡ record { place = place_of 0; next = at + 1; ty = 0; asks = Ok Nothing }
   unfolding request_at request_of
   asks a at l z = rw (padding c.role s at kind a l z) refl
 
   leaves : admitted c.role kind 0 ≡ true → (at : ℕ) → at < length s → get_or s at 0 ≡ 0
-      → decided_at c t s at kind ≡ record { stepped = record { conn = c; answer = Accepted; more = is_open c.mark; next = at + 1 }; entry = entry_at t (place_of 0) }
+      → decided_at c t s at kind ≡ record { stepped = record { conn = c; answer = Accepted; next = at + 1 }; entry = entry_at t (place_of 0) }
   unfolding decided_at decided_of judged_of settled_of verdict_of conn_heard entry_heard
   leaves a at l z = rw (asks a at l z) refl
 
   -- what a walk makes of a frame that leaves x, having looked at a place
   abbrev pub goes : ℕ → ℕ → Decided → ℕ → Stopped × List Entry
   goes k at x place =
-      x.stepped.more ⇒ reached k x.stepped.conn (set t place x.entry) s x.stepped.next kind
+      is_open x.stepped.conn.mark ⇒ reached k x.stepped.conn (set t place x.entry) s x.stepped.next kind
       ∣ (stopped x.stepped.conn at x.stepped.answer, set t place x.entry)
 
   pub stepped_on : (k at : ℕ) → at < length s → reached (suc k) c t s at kind ≡ goes k at (decided_at c t s at kind) (request_at c.role s at kind).place
   unfolding walk_from
-  stepped_on k at l = rw (lt-leb (length s) at l) (through bare (decided_at c t s at kind).stepped.more _ _)
+  stepped_on k at l = rw (lt-leb (length s) at l) (through bare (is_open (decided_at c t s at kind).stepped.conn.mark) _ _)
 
   one : admitted c.role kind 0 ≡ true → (k at : ℕ) → at < length s → get_or s at 0 ≡ 0 → is_open c.mark ≡ true → reached (suc k) c t s at kind ≡ reached k c t s (suc at) kind
   one a k at l z h = stepped_on k at l ∙ (λ i. goes k at (leaves a at l z i) (asks a at l z i).place) ∙ rw (h, set-get_or t (place_of 0) (fresh 0), add-one) refl

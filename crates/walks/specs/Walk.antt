@@ -8,6 +8,7 @@ use Rattle.streams.specs.declared.Conn.{Conn}
 use Rattle.entries.specs.declared.Entry.{Entry}
 use Rattle.steps.specs.declared.Stopped.{Stopped}
 use Rattle.single.specs.Single.{stepped_at, step_table}
+use Rattle.streams.specs.Conn.{is_open}
 
 abbrev pub stopped : Conn → ℕ → Answer → Stopped
 stopped c place answer = record { conn = c; place = place; answer = answer }
@@ -22,7 +23,7 @@ unfoldable pub walk_from : ℕ → Conn → List Entry → List ℕ → ℕ → 
 walk_from zero c t s at kind = record { stop = stopped c at Accepted; table = t }
 walk_from (suc k) c t s at kind =
     leb (length s) at ⇒ record { stop = stopped c at Accepted; table = t }
-    ∣ (stepped_at c t s at kind).more ⇒ walk_from k (stepped_at c t s at kind).conn (step_table c t s at kind) s (stepped_at c t s at kind).next kind
+    ∣ is_open (stepped_at c t s at kind).conn.mark ⇒ walk_from k (stepped_at c t s at kind).conn (step_table c t s at kind) s (stepped_at c t s at kind).next kind
     ∣ record { stop = stopped (stepped_at c t s at kind).conn at (stepped_at c t s at kind).answer; table = step_table c t s at kind }
 
 -- there are no more frames than bytes

@@ -33,7 +33,7 @@ pub fn walk(c: Conn, t: &mut [Entry], s: &[u8], from: usize, kind: Kind) -> Stop
         }
         let r = single::step(conn, t, s, at, kind);
         conn = r.conn;
-        if !r.more {
+        if !conn.mark.is_open() {
             break 'walk Stop {
                 place: at,
                 answer: r.answer,

@@ -1,14 +1,13 @@
 -- The rules of a packet record at their borders, from both sides: they hold the definitions to docs/RULES.md. Beside each, its sentence.
-use Rattle.std.specs.Prelude.{◌≡◌, true, false, List, [], ◌∷◌, ◌++◌, map, ℕ, ◌+◌, ◌-◌, ◌^◌, replicate}
+use Rattle.std.specs.Prelude.{◌≡◌, true, false, List, [], ◌∷◌, ◌++◌, map, ℕ, ◌+◌, ◌-◌, ◌^◌, replicate, None, Ok, Err}
 use Rattle.answers.specs.Answers.{number_of}
 use Rattle.answers.specs.declared.Answer.TheVariants.{DoesNotFit}
-use Rattle.ring.specs.declared.Run.TheVariants.{Span, Nothing}
 use Rattle.records.specs.declared.Record.{Record}
-use Rattle.records.specs.declared.Found.TheVariants.{Is, Refused}
 use Rattle.records.specs.Found.{found_of}
 use Rattle.records.specs.Marks.{none_of, sound_of, check_of}
 use Rattle.records.specs.Ring.{taken_of}
 use Rattle.windows.specs.History.{answer_after, taken_numbers}
+use Rattle.ring.specs.Runs.{span}
 
 -- a record that marks 0, or another number of its slot, alone
 abbrev pub first_slot : ℕ → Record
@@ -61,9 +60,9 @@ pub record Borders : Type 0 where
   -- a record that fits is 0, one that does not 120
   pub checked : map (λ (R : Record). number_of (check_of R)) (none_of ∷ first_slot 1 ∷ three ∷ first_slot 0 ∷ first_slot 2 ∷ first_slot (2 ^ 62 + 1) ∷ []) ≡ 0 ∷ 0 ∷ 0 ∷ 120 ∷ 120 ∷ 120 ∷ []
   -- "next run downwards": below a number, which is not part of it, and down to 0; none below 0 or in a new record; 120 where the record does not fit
-  pub runs : map (found_of three) (9 ∷ 4 ∷ 3 ∷ 2 ∷ 1 ∷ 0 ∷ []) ≡ Is (Span 3 3) ∷ Is (Span 3 3) ∷ Is (Span 1 0) ∷ Is (Span 1 0) ∷ Is (Span 0 0) ∷ Is Nothing ∷ []
-  pub no_runs : found_of none_of 5 ∷ found_of (first_slot 0) 5 ∷ found_of (first_slot 2) 0 ∷ [] ≡ Is Nothing ∷ Refused DoesNotFit ∷ Refused DoesNotFit ∷ []
+  pub runs : map (found_of three) (9 ∷ 4 ∷ 3 ∷ 2 ∷ 1 ∷ 0 ∷ []) ≡ Ok (span 3 3) ∷ Ok (span 3 3) ∷ Ok (span 1 0) ∷ Ok (span 1 0) ∷ Ok (span 0 0) ∷ Ok None ∷ []
+  pub no_runs : found_of none_of 5 ∷ found_of (first_slot 0) 5 ∷ found_of (first_slot 2) 0 ∷ [] ≡ Ok None ∷ Err DoesNotFit ∷ Err DoesNotFit ∷ []
   -- a run over the end of the ring: 8,191 to 8,193 are its last slot and its first two
-  pub over_the_end : map (found_of (seam 3 (2 ^ 63) 8194)) (8194 ∷ 8193 ∷ 8192 ∷ []) ≡ Is (Span 8193 8191) ∷ Is (Span 8192 8191) ∷ Is (Span 8191 8191) ∷ []
+  pub over_the_end : map (found_of (seam 3 (2 ^ 63) 8194)) (8194 ∷ 8193 ∷ 8192 ∷ []) ≡ Ok (span 8193 8191) ∷ Ok (span 8192 8191) ∷ Ok (span 8191 8191) ∷ []
   -- a run at the lower end of the window: of the slots of 8,192 and 1 the first is not 0 again
-  pub at_the_edge : map (found_of (seam 3 0 8193)) (8193 ∷ 3 ∷ 2 ∷ 1 ∷ []) ≡ Is (Span 8192 8192) ∷ Is (Span 1 1) ∷ Is (Span 1 1) ∷ Is Nothing ∷ []
+  pub at_the_edge : map (found_of (seam 3 0 8193)) (8193 ∷ 3 ∷ 2 ∷ 1 ∷ []) ≡ Ok (span 8192 8192) ∷ Ok (span 1 1) ∷ Ok (span 1 1) ∷ Ok None ∷ []

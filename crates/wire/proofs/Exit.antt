@@ -11,12 +11,10 @@ use Rattle.answers.specs.declared.Answer.{Answer}
 use Rattle.answers.specs.declared.Answer.TheVariants.{Unwritable}
 use Rattle.wire.specs.Number.{number_at, size_of, bytes_of, form_of, values_in}
 use Rattle.wire.specs.Writing.{Bytes, Never, writes, number_draft, Written}
-use Rattle.wire.specs.declared.Wrote.{Wrote}
-use Rattle.wire.specs.declared.Wrote.TheVariants.{To, Refused}
-use Rattle.wire.specs.declared.Number.TheVariants.{Is}
 use Rattle.wire.proofs.BigEndian.{length_spelled}
 use Rattle.wire.proofs.Back.{back, by_size}
 use Rattle.wire.proofs.Writing.{past, bytes_written, bytes_unrefused}
+use Rattle.std.specs.Prelude.{Some, Result, Ok, Err}
 
 pub length_bytes : (v : ℕ) → length (bytes_of v) ≡ size_of v
 unfolding bytes_of
@@ -36,20 +34,20 @@ module _ (v : ℕ) where
   unfolding number_draft
   out_of_range h = simp (lt-ltb (2 ^ 62 - 1) v h)
 
-module _ (v : ℕ) (out : List ℕ) (at : ℕ) {r : Wrote} {after : List ℕ} (e : (r, after) ≡ writes (number_draft v) out at) where
+module _ (v : ℕ) (out : List ℕ) (at : ℕ) {r : Result ℕ Answer} {after : List ℕ} (e : (r, after) ≡ writes (number_draft v) out at) where
   -- a value in range is not refused where there is room for it
-  pub unrefused : v < 2 ^ 62 → at + length (bytes_of v) ≤ length out → {a : Answer} → r ≡ Refused a → ⊥
+  pub unrefused : v < 2 ^ 62 → at + length (bytes_of v) ≤ length out → {a : Answer} → r ≡ Err a → ⊥
   unrefused h = bytes_unrefused (bytes_of v) out at (rw (in_range_law v h) at e)
 
   -- what is accepted is in range, and its shortest form was written
-  pub accepted : {n : ℕ} → r ≡ To n → (v < 2 ^ 62) × Written (bytes_of v) out at n after
+  pub accepted : {n : ℕ} → r ≡ Ok n → (v < 2 ^ 62) × Written (bytes_of v) out at n after
   unfolding number_draft
   accepted p =
       let q = past (ltb (2 ^ 62 - 1) v) Unwritable (Bytes (bytes_of v)) out at e p in
       (omega (arith, ltb-false (2 ^ 62 - 1) v q.0), bytes_written (bytes_of v) out at q.1 p)
 
   -- and it reads back
-  pub reads : {n : ℕ} → r ≡ To n → number_at after at ≡ Is v n
+  pub reads : {n : ℕ} → r ≡ Ok n → number_at after at ≡ Some (v, n)
   reads p =
       let a = accepted p in
       rw (a.1.ends, length_bytes v) (back after at v a.0 a.1.stands)

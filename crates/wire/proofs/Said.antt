@@ -4,12 +4,12 @@ use mathlib.Core.Path.{◌≡◌, refl, ap}
 use Rattle.answers.proofs.Numbers.{answer_of, again}
 use Rattle.answers.proofs.Said.{one_value, found_by}
 use Rattle.wire.specs.Said.{wrote_says}
-use Rattle.wire.specs.declared.Wrote.{Wrote}
-use Rattle.wire.specs.declared.Wrote.TheVariants.{To, Refused}
+use Rattle.std.specs.Prelude.{ℕ, Result, Ok, Err}
+use Rattle.answers.specs.declared.Answer.{Answer}
 
-found_again : (x : Wrote) → found_by To (λ n. Refused (answer_of n)) (wrote_says x) ≡ x
-found_again (To next) = refl
-found_again (Refused answer) = ap Refused (again answer)
+found_again : (x : Result ℕ Answer) → found_by Ok (λ n. Err (answer_of n)) (wrote_says x) ≡ x
+found_again (Ok next) = refl
+found_again (Err answer) = ap Err (again answer)
 
-pub one_wrote : (x y : Wrote) → wrote_says x ≡ wrote_says y → x ≡ y
-one_wrote = one_value wrote_says (found_by To (λ n. Refused (answer_of n))) found_again
+pub one_wrote : (x y : Result ℕ Answer) → wrote_says x ≡ wrote_says y → x ≡ y
+one_wrote = one_value wrote_says (found_by Ok (λ n. Err (answer_of n))) found_again

@@ -10,8 +10,7 @@ use lib.ListN.{length, get_or}
 use Rattle.answers.proofs.Choice.{holds}
 use Rattle.wire.specs.Number.{field_at, values_in, form_at, number_at, with_number}
 use Rattle.wire.specs.Sound.{Sound, Found}
-use Rattle.wire.specs.declared.Number.{Number}
-use Rattle.wire.specs.declared.Number.TheVariants.{Is, CutShort}
+use Rattle.std.specs.Prelude.{Option, Some, None}
 
 -- one of four forms
 pub four : (P : ℕ → Type 0) → P 0 → P 1 → P 2 → P 3 → (f : ℕ) → f < 4 → P f
@@ -22,14 +21,14 @@ four P a b c d (suc (suc (suc zero))) h = d
 four P a b c d (suc (suc (suc (suc f)))) h = absurd (omega arith)
 
 module _ (s : List ℕ) (at : ℕ) where
-  abbrev IfRead : Number → Type 0
-  IfRead (Is v n) = Sound s at v n
-  IfRead CutShort = Unit
+  abbrev IfRead : Option (ℕ × ℕ) → Type 0
+  IfRead (Some (v, n)) = Sound s at v n
+  IfRead None = Unit
 
   field_sound : (k x : ℕ) → 0 < k → x < 2 ^ 62 → IfRead (field_at s at k x)
   unfolding field_at
   field_sound k x p h =
-      holds IfRead (ltb (length s) (at + k)) CutShort (Is x (at + k)) (λ e. tt)
+      holds IfRead (ltb (length s) (at + k)) None (Some (x, at + k)) (λ e. tt)
       (λ e. record { low = h; above = omega arith; within = ltb-false _ _ e })
 
   all_sound : IfRead (number_at s at)
@@ -40,23 +39,23 @@ module _ (s : List ℕ) (at : ℕ) where
       (field_sound 4 _ (omega arith) (omega arith)) (field_sound 8 _ (omega arith) (omega arith))
       (get_or s at 0 / 64 % 4) (omega arith)
 
-  pub sound : {v next : ℕ} → number_at s at ≡ Is v next → Sound s at v next
+  pub sound : {v next : ℕ} → number_at s at ≡ Some (v, next) → Sound s at v next
   sound e = subst IfRead e all_sound
 
 module _ (s : List ℕ) (at k x : ℕ) where
-  abbrev IfFound : Number → Type 0
-  IfFound (Is v n) = Found s at k x v n
-  IfFound CutShort = Unit
+  abbrev IfFound : Option (ℕ × ℕ) → Type 0
+  IfFound (Some (v, n)) = Found s at k x v n
+  IfFound None = Unit
 
   -- a field that was read has its value and its length
-  pub found : {v next : ℕ} → field_at s at k x ≡ Is v next → Found s at k x v next
+  pub found : {v next : ℕ} → field_at s at k x ≡ Some (v, next) → Found s at k x v next
   unfolding field_at
   found e =
       subst IfFound e
-      (holds IfFound (ltb (length s) (at + k)) CutShort (Is x (at + k)) (λ e. tt)
+      (holds IfFound (ltb (length s) (at + k)) None (Some (x, at + k)) (λ e. tt)
       (λ e. record { value = refl; ends = refl; within = ltb-false _ _ e }))
 
 -- what holds where the bytes end and wherever a value was read holds of what goes on with it
-pub with_number_law : {X : Type 0} (P : X → Type 0) (n : Number) (x : X) (k : ℕ → ℕ → X) → P x → ((v next : ℕ) → n ≡ Is v next → P (k v next)) → P (with_number n x k)
-with_number_law P (Is v next) x k p q = q v next refl
-with_number_law P CutShort x k p q = p
+pub with_number_law : {X : Type 0} (P : X → Type 0) (n : Option (ℕ × ℕ)) (x : X) (k : ℕ → ℕ → X) → P x → ((v next : ℕ) → n ≡ Some (v, next) → P (k v next)) → P (with_number n x k)
+with_number_law P (Some (v, next)) x k p q = q v next refl
+with_number_law P None x k p q = p

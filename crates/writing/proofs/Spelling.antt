@@ -4,27 +4,25 @@ use mathlib.Core.Path.{◌≡◌, ◌∙◌}
 use mathlib.Core.Bool.{true}
 use mathlib.Core.List.{List, [], ◌∷◌, ◌++◌, append_assoc}
 use Prim.Native.Nat.{ℕ, ◌+◌, ◌-◌, ◌^◌, ◌≤◌, ◌<◌}
-use native.Mathlib.Nat.{add-zero}
 use native.Mathlib.Numerals.{add-one}
 use native.Mathlib.Omega.{arith}
 use borrow.Author.Tests.{le-leb}
 use lib.ListN.{length, take, length-append}
-use lib.Seq.{sets, length-sets}
+use lib.Seq.{length-sets}
 use Rattle.wire.specs.Number.{bytes_of}
-use Rattle.wire.specs.Writing.{Bytes, writes}
-use Rattle.wire.specs.declared.Wrote.{Wrote}
-use Rattle.wire.specs.declared.Wrote.TheVariants.{To}
-use Rattle.wire.proofs.Writing.{all_written}
+use Rattle.wire.specs.Writing.{Bytes, writes, Written}
+use Rattle.wire.proofs.Writing.{bytes_written, bytes_unrefused}
 use Rattle.row.specs.Row.{in_range, bytes_all, row_draft}
 use Rattle.row.proofs.Back as row
 use Rattle.layouts.specs.Layout.{layout_of}
 use Rattle.contents.specs.Content.{Content}
 use Rattle.contents.specs.Taken.{takes}
 use Rattle.contents.proofs.Taking as taking
-use Rattle.bodies.specs.Bodies.{place_after}
-use Rattle.bodies.proofs.Joined.{placed, joined}
+use Rattle.bodies.proofs.Joined.{joined}
 use Rattle.sizes.specs.Spelled.{four_bytes, spelled_frame}
 use Rattle.sizes.proofs.Spelling.{front, middle, back}
+use Rattle.std.specs.Prelude.{Result, Ok, Err}
+use Rattle.answers.specs.declared.Answer.{Answer}
 
 -- a frame's type and the numbers before its body, as one row
 module _ (f : Content) where
@@ -46,10 +44,6 @@ pub range_more : (v : ℕ) (vs : List ℕ) → v < 2 ^ 62 → in_range vs ≡ tr
 unfolding in_range
 range_more v vs h r = rw (le-leb v (2 ^ 62 - 1) (omega arith), r)
 
--- no bytes leave all as it was
-pub nothing : (out : List ℕ) (at : ℕ) → at + 0 ≤ length out → writes (Bytes []) out at ≡ (To at, out)
-nothing out at h = all_written out at [] h ∙ rw add-zero
-
 pub range_four : (a b c d : ℕ) → a < 2 ^ 62 → b < 2 ^ 62 → c < 2 ^ 62 → d < 2 ^ 62 → in_range (a ∷ b ∷ c ∷ d ∷ []) ≡ true
 unfolding in_range
 range_four a b c d h i j k =
@@ -60,25 +54,28 @@ module _ (f : Content) (low : f.ty < 2 ^ 62) (t : takes f ≡ true) (out : List 
   lengths : length (spelled_frame f) ≡ length (head f) + length (middle f) + length (back f)
   lengths = rw (spelled_pieces f) (omega (arith, length-append (head f) (middle f ++ back f), length-append (middle f) (back f)))
 
-  pub head_put : {w : Wrote} {one : List ℕ} {q : ℕ} → (w, one) ≡ writes (row_draft (take ((layout_of f.ty).numbers + 1) (heading f))) out at → q ≡ place_after w
-      → (q ≡ at + length (head f)) × (one ≡ sets out at (head f))
-  head_put e p =
+  head_draft : row_draft (take ((layout_of f.ty).numbers + 1) (heading f)) ≡ Bytes (head f)
+  head_draft =
       let r = row.range_take ((layout_of f.ty).numbers + 1) (heading f) (range_more f.ty _ low (range_four _ _ _ _ (taking.low f t).a (taking.low f t).b (taking.low f t).c (taking.low f t).d)) in
-      let d = placed (head f) out at (rw (row.in_range_law _ r, head_row f) at e) (omega (arith, lengths)) in (p ∙ d.0, d.1)
+      rw (row.in_range_law _ r, head_row f)
 
-  module _ {one : List ℕ} {q : ℕ} (x : (q ≡ at + length (head f)) × (one ≡ sets out at (head f))) where
+  module _ {w : Result ℕ Answer} {one : List ℕ} (e : (w, one) ≡ writes (row_draft (take ((layout_of f.ty).numbers + 1) (heading f))) out at) where
+    pub head_unrefused : {a : Answer} → w ≡ Err a → ⊥
+    head_unrefused = bytes_unrefused (head f) out at (rw head_draft at e) (omega (arith, lengths))
+
+    pub head_put : {q : ℕ} → w ≡ Ok q → Written (head f) out at q one
+    head_put = bytes_written (head f) out at (rw head_draft at e)
+
+  module _ {one : List ℕ} {q : ℕ} (x : Written (head f) out at q one) where
     pub room_one : q + length (middle f) ≤ length one
-    room_one = rw (x.1, length-sets) (omega (arith, x.0, lengths))
+    room_one = rw (x.holds, length-sets) (omega (arith, x.ends, lengths))
 
-    pub middle_put : {w : Wrote} {two : List ℕ} {r : ℕ} → (w, two) ≡ writes (Bytes (middle f)) one q → r ≡ place_after w → (r ≡ q + length (middle f)) × (two ≡ sets one q (middle f))
-    middle_put e p = let d = placed (middle f) one q e room_one in (p ∙ d.0, d.1)
-
-    module _ {two : List ℕ} {r : ℕ} (y : (r ≡ q + length (middle f)) × (two ≡ sets one q (middle f))) where
-      pub back_put : {w : Wrote} {three : List ℕ} → (w, three) ≡ writes (row_draft (take (layout_of f.ty).after (f.x ∷ f.y ∷ f.z ∷ 0 ∷ []))) two r → (w, three) ≡ writes (Bytes (spelled_frame f)) out at
+    module _ {two : List ℕ} {r : ℕ} (y : Written (middle f) one q r two) where
+      pub back_put : {w : Result ℕ Answer} {three : List ℕ} → (w, three) ≡ writes (row_draft (take (layout_of f.ty).after (f.x ∷ f.y ∷ f.z ∷ 0 ∷ []))) two r → (w, three) ≡ writes (Bytes (spelled_frame f)) out at
       unfolding four_bytes
       back_put e =
           let u = row.range_take (layout_of f.ty).after (f.x ∷ f.y ∷ f.z ∷ 0 ∷ []) (range_four _ _ _ _ (taking.low f t).x (taking.low f t).y (taking.low f t).z (omega arith)) in
           let k = rw (spelled_pieces f) at room in
-          let n = joined (middle f) (back f) one q y.1 y.0 (rw (x.1, length-sets) (omega (arith, x.0, lengths))) in
-          let h = joined (head f) (middle f ++ back f) out at x.1 x.0 (omega (arith, k, length-append (head f) (middle f ++ back f))) in
+          let n = joined (middle f) (back f) one q y.holds y.ends (rw (x.holds, length-sets) (omega (arith, x.ends, lengths))) in
+          let h = joined (head f) (middle f ++ back f) out at x.holds x.ends (omega (arith, k, length-append (head f) (middle f ++ back f))) in
           rw (row.in_range_law _ u) at e ∙ n ∙ h ∙ rw (← spelled_pieces f)

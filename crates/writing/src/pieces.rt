@@ -1,5 +1,5 @@
 // What stands between a frame's numbers: bytes copied, and an ACK's ranges written anew in shortest form.
-ghost use Rattle.std.specs.Prelude.{◌≡◌, ◌+◌, ◌≤◌, length};
+ghost use Rattle.std.specs.Prelude.{◌≡◌, ◌+◌, ◌≤◌, length, Ok};
 ghost use Rattle.std.proofs.lemmas.List.Edits.{sets};
 ghost use Rattle.wire.specs.Writing.{Bytes, writes};
 ghost use Rattle.row.specs.Row.{size_all, bytes_all};
@@ -7,48 +7,50 @@ ghost use Rattle.ranges.specs.Listed.{listed};
 ghost use Rattle.contents.specs.Content.{body_of, token_of};
 ghost use Rattle.sizes.specs.Spelled.{body_bytes, Bounded};
 
+use answers::Answer;
 use fields::Parts;
 use layouts::Tail;
-use wire::{Number, Wrote};
 
-// Writes n numbers that stand in a row in shortest form, at a place with room for all.
-fn put_listed(out: &mut [u8], at: usize, s: &[u8], from: usize, n: u64) -> usize
+// Writes n numbers that stand in a row in shortest form, or those of them that can be read, at a place with room for all, so that none is refused.
+#[tactic(auto, using(sizes::proofs::Listing::listed_none, sizes::proofs::Listing::listed_cut, crate::proofs::Listing::finished))]
+fn put_listed(out: &mut [u8], at: usize, s: &[u8], from: usize, n: u64) -> Result<usize, Answer>
     requires { at + size_all (listed s.now from n) ≤ length out.old }
-    ensures { (result ≡ at + size_all (listed s.now from n)) × (out.new ≡ sets out.old at (bytes_all (listed s.now from n))) }
+    ensures { (result ≡ Ok (at + size_all (listed s.now from n))) × (out.new ≡ sets out.old at (bytes_all (listed s.now from n))) }
 {
     let mut place = from;
     let mut to = at;
-    let mut left = n;
-    while 0 < left {
-        let Number::Is { value, next } = wire::read(s, place) else {
-            return to;
+    for _ in 0..n {
+        let Some((value, next)) = wire::read(s, place) else {
+            return Ok(to);
         };
-        to = bodies::past(wire::write(out, to, value));
+        to = wire::write(out, to, value)?;
         place = next;
-        left -= 1;
     }
-    to
+    Ok(to)
 }
 
 // Writes what stands between the numbers of a frame, at a place with room for it.
-pub(crate) fn put(tail: Tail, p: Parts, s: &[u8], out: &mut [u8], at: usize) -> Wrote
+#[tactic(auto, using(crate::proofs::Slices::part, bodies::proofs::Drafts::counted_draft_law, bodies::proofs::Drafts::identity_draft_law, row::proofs::Back::length_all, wire::proofs::Writing::all_written))]
+pub(crate) fn put(
+    tail: Tail,
+    p: Parts,
+    s: &[u8],
+    out: &mut [u8],
+    at: usize,
+) -> Result<usize, Answer>
     requires { Bounded (length s.now) tail p × (at + length (body_bytes tail p.len (body_of s.now tail p) (token_of s.now tail p)) ≤ length out.old) }
     ensures { (result, out.new) ≡ writes (Bytes (body_bytes tail p.len (body_of s.now tail p) (token_of s.now tail p))) out.old at }
 {
-    let from = p.at;
     let end = p.at + p.len;
-    let body = &s[from..end];
+    let body = &s[p.at..end];
     match tail {
-        Tail::Nothing => Wrote::To { next: at },
+        Tail::Nothing => Ok(at),
         Tail::Counted => bodies::counted(out, at, body),
         Tail::Remainder | Tail::Eight => text::put::bytes(out, at, body),
         Tail::Identity => {
-            let token = p.token;
             let stop = p.token + 16;
-            bodies::identity(out, at, body, &s[token..stop])
+            bodies::identity(out, at, body, &s[p.token..stop])
         },
-        Tail::Ranges => Wrote::To {
-            next: put_listed(out, at, s, p.at, 2 * p.c),
-        },
+        Tail::Ranges => put_listed(out, at, s, p.at, 2 * p.c),
     }
 }

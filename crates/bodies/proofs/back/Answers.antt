@@ -4,13 +4,5 @@ use lib.Seq.{length-take-le}
 use Rattle.sizes.proofs.Bounds.{at_most_four}
 use Rattle.bodies.proofs.back.Goals as goal
 
-pub slice_bounds-numbers-end : goal.slice_bounds-numbers-end
-slice_bounds-numbers-end c =
-    rw c.find-l.ensures (at_most_four c.args.p.ty).1
-
 pub slice_bounds-write-end : goal.slice_bounds-write-end
-slice_bounds-write-end c = sym (length-take-le _ _ (rw c.find-l.ensures (at_most_four c.args.p.ty).1))
-
-pub returns : goal.returns
-returns c =
-    rw c.find-l.ensures at c.write.ensures
+slice_bounds-write-end c = sym (length-take-le _ _ (rw (c.from-n.ensures, c.find-l.ensures) (at_most_four c.args.p.ty).1))

@@ -11,8 +11,8 @@ use Rattle.clashes.proofs.clash.Goals as goal
 pub returns-then-not-has_room : goal.returns-then-not-has_room
 returns-then-not-has_room c = clash_unfit _ _ _ _ _ _ _ _ (sym c.has_room.ensures ∙ c.if-not-has_room.true)
 
-pub overflow_add-offset : goal.overflow_add-offset
-overflow_add-offset c =
+pub overflow_add-piece : goal.overflow_add-piece
+overflow_add-piece c =
     let p = room_told _ _ _ _ _ _ _ _ (sym c.has_room.ensures ∙ c.if-not-has_room.false) in
     omega (arith, p.fits, p.low)
 
@@ -48,9 +48,9 @@ returns-then-not-same_at c =
     let a = c.args in
     clash_is _ _ _ _ _ _ _ _ p _
     (is_true _ (λ e. same.fails (c.if-not-same_at.true)
-    (agrees_here a.ring.now a.marks.now a.read a.held a.s.now a.from a.len a.offset _ _ _ _ k r
-    (max a.offset a.read) (min (a.offset + a.len) a.held) (omega (arith, c.larger-at.ensures)) (omega (arith, c.larger-at.ensures)) (omega (arith, c.smaller-to.ensures))
-    (agrees a.ring.now a.marks.now a.read a.held a.s.now a.from a.len a.offset e))))
+    (agrees_here a.ring.now a.marks.now a.reach.read a.reach.held a.s.now a.piece.from a.piece.len a.piece.offset _ _ _ _ k r
+    (max a.piece.offset a.reach.read) (min (a.piece.offset + a.piece.len) a.reach.held) (omega (arith, c.max-at.ensures)) (omega (arith, c.max-at.ensures)) (omega (arith, c.min-to.ensures))
+    (agrees a.ring.now a.marks.now a.reach.read a.reach.held a.s.now a.piece.from a.piece.len a.piece.offset e))))
 
 pub loop-at-smaller : goal.loop-at-smaller
 loop-at-smaller c =
@@ -58,7 +58,7 @@ loop-at-smaller c =
     let k = up_told _ _ _ _ p.words _ c.up-first.ensures in
     let r = up_told _ _ _ _ p.words _ c.up-last.ensures in
     let a = c.args in
-    omega (arith, past a.ring.now a.marks.now a.read a.held a.s.now a.from a.len a.offset _ _ _ _ k r (omega arith))
+    omega (arith, past a.ring.now a.marks.now a.reach.read a.reach.held a.s.now a.piece.from a.piece.len a.piece.offset _ _ _ _ k r (omega arith))
 
 pub loop-at-preserved : goal.loop-at-preserved
 loop-at-preserved c =
@@ -70,8 +70,8 @@ loop-at-preserved c =
     (record { long = p.bytes; few = omega (arith, p.reach, k.least, r.within); room = omega (arith, p.there, k.least, r.within) }) _ c.same_at.ensures in
     let a = c.args in (
       omega (arith, k.least, r.least),
-      agrees_more a.ring.now a.marks.now a.read a.held a.s.now a.from a.len a.offset _ _ _ _ k r _
-          (omega (arith, c.larger-at.ensures)) c.loop-at.invariant.1 (same.holds (c.if-not-same_at.false)),
+      agrees_more a.ring.now a.marks.now a.reach.read a.reach.held a.s.now a.piece.from a.piece.len a.piece.offset _ _ _ _ k r _
+          (omega (arith, c.max-at.ensures)) c.loop-at.invariant.1 (same.holds (c.if-not-same_at.false)),
     )
 
 pub returns : goal.returns
@@ -79,5 +79,5 @@ returns c =
     let p = room_told _ _ _ _ _ _ _ _ (sym c.has_room.ensures ∙ c.if-not-has_room.false) in
     let a = c.args in
     clash_is _ _ _ _ _ _ _ _ p _
-    (sym (no_clash a.ring.now a.marks.now a.read a.held a.s.now a.from a.len a.offset
-    (λ p x y. c.loop-at.invariant.1 p (omega (arith, c.larger-at.ensures)) (omega (arith, c.smaller-to.ensures)))))
+    (sym (no_clash a.ring.now a.marks.now a.reach.read a.reach.held a.s.now a.piece.from a.piece.len a.piece.offset
+    (λ p x y. c.loop-at.invariant.1 p (omega (arith, c.max-at.ensures)) (omega (arith, c.min-to.ensures)))))

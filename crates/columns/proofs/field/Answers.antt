@@ -9,12 +9,12 @@ returns-in_default c =
 
 pub bounds-line-next : goal.bounds-line-next
 bounds-line-next c =
-    next_stored _ _ c.args.n c.requires c.write.ensures c.in-To.is
+    next_stored _ _ c.args.n c.requires c.write.ensures c.in-Ok.is
 
 pub overflow_add-result : goal.overflow_add-result
 overflow_add-result c =
-    omega (arith, next_within _ _ c.args.n c.requires c.write.ensures c.in-To.is)
+    omega (arith, next_within _ _ c.args.n c.requires c.write.ensures c.in-Ok.is)
 
 pub returns : goal.returns
 returns c =
-    field_written _ _ c.args.n c.requires c.write.ensures c.in-To.is c.args.behind
+    field_written _ _ c.args.n c.requires c.write.ensures c.in-Ok.is c.args.behind

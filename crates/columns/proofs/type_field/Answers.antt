@@ -4,9 +4,9 @@ use native.Mathlib.Numerals.{add-one}
 use Rattle.columns.proofs.Fields.{type_number, type_dash}
 use Rattle.columns.proofs.type_field.Goals as goal
 
-pub returns-in-Is : goal.returns-in-Is
-returns-in-Is c =
-    rw (c.in-Is.is, type_number) c.field.ensures
+pub returns-in-Some : goal.returns-in-Some
+returns-in-Some c =
+    rw (c.in-Some.is, type_number) c.field.ensures
 
-pub returns-in-Unread : goal.returns-in-Unread
-returns-in-Unread c = rw (c.in-Unread.is, type_dash) (refl, rw add-one)
+pub returns-in-None : goal.returns-in-None
+returns-in-None c = rw (c.in-None.is, type_dash) (refl, rw add-one)

@@ -3,10 +3,14 @@ use borrow.Author.Tests.{lt-ltb, le-ltb}
 use Rattle.dumps.specs.Dump.{begun_of}
 use Rattle.dumps.proofs.begun.Goals as goal
 
-pub returns-then-half-lt16 : goal.returns-then-half-lt16
+pub returns-in-Some : goal.returns-in-Some
 unfolding begun_of
-returns-then-half-lt16 c = rw (lt-ltb _ 16 c.if-half-lt16.true)
+returns-in-Some c = rw (c.in-Some.is, lt-ltb c.in-Some.digit 16 c.if-digit-lt16.true)
 
-pub returns : goal.returns
+pub returns-in_default : goal.returns-in_default
 unfolding begun_of
-returns c = rw (le-ltb _ 16 c.if-half-lt16.false)
+returns-in_default c = rw (c.in-Some.is, le-ltb c.in-Some.digit 16 c.if-digit-lt16.false)
+
+pub returns-in_default-2 : goal.returns-in_default-2
+unfolding begun_of
+returns-in_default-2 c = rw c.in_default.is

@@ -1,6 +1,6 @@
 use mathlib.Core.Path.{◌≡◌}
 use mathlib.Core.Bool.{true}
-use Prim.Native.Nat.{◌≤◌, ◌-◌, ◌/◌, ◌%◌}
+use Prim.Native.Nat.{◌≤◌, ◌*◌, ◌/◌, ◌%◌}
 use lib.ListN.{length, drop}
 use lib.Seq.{sets}
 use Rattle.text.specs.Text.{every}
@@ -9,9 +9,10 @@ use Rattle.dumps.specs.Digits.{is_half}
 use Rattle.hexes.proofs.decode.Given as goal
 
 abbrev pub invariant-loop-i : goal.invariant-loop-i
-invariant-loop-i l =
-    (l.i ≤ length l.s) × (l.i % 2 ≡ 0) × (length l.s % 2 ≡ 0) × (length l.s / 2 ≤ length l.initial.out) × (length l.out ≡ length l.initial.out)
-    × (every is_half (drop l.i l.s) ≡ true) × (sets l.out (l.i / 2) (bytes_in (drop l.i l.s)) ≡ sets l.initial.out 0 (bytes_in l.s))
-
-abbrev pub decreases-loop-i : goal.decreases-loop-i
-decreases-loop-i l = length l.s - l.i
+invariant-loop-i l = record {
+  even : length l.s % 2 ≡ 0;
+  room : length l.s / 2 ≤ length l.initial.out;
+  same : length l.out ≡ length l.initial.out;
+  digits : every is_half (drop (2 * l.i) l.s) ≡ true;
+  stored : sets l.out l.i (bytes_in (drop (2 * l.i) l.s)) ≡ sets l.initial.out 0 (bytes_in l.s);
+}

@@ -6,5 +6,5 @@ use Rattle.hexes.proofs.digit.Goals as goal
 pub returns-then-half-lt10 : goal.returns-then-half-lt10
 returns-then-half-lt10 c = let h = c.args.half in omega (arith, digit_figure h (omega arith))
 
-pub returns : goal.returns
-returns c = let h = c.args.half in omega (arith, digit_letter h (omega arith))
+pub returns-else-half-lt10 : goal.returns-else-half-lt10
+returns-else-half-lt10 c = let h = c.args.half in omega (arith, digit_letter h (omega arith))

@@ -11,9 +11,9 @@ pub returns-then-not-is_pairs : goal.returns-then-not-is_pairs
 unfolding pairs_of
 returns-then-not-is_pairs c = simp (sym c.is_pairs.ensures ∙ c.if-not-is_pairs.true)
 
-pub returns-then-out-s : goal.returns-then-out-s
+pub returns-then-out-count : goal.returns-then-out-count
 unfolding pairs_of
-returns-then-out-s c =
+returns-then-out-count c =
     let a = c.args in
     simp (sym c.is_pairs.ensures ∙ c.if-not-is_pairs.false, lt-ltb (length a.out.now) (length a.s.now / 2) (omega arith))
 

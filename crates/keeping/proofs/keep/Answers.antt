@@ -24,26 +24,26 @@ returns-then-end-read c =
     let fit = sym c.has_room.ensures ∙ c.if-not-has_room.false in
     let p = room_told _ _ _ _ _ _ _ _ fit in
     let k =
-    keeps _ _ _ _ _ _ _ _ fit _ _ _ c.larger-top.ensures
-    (ring_left a.ring.now a.marks.now a.read a.held a.s.now a.from a.len a.offset (omega arith) p.bytes)
-    (marks_left a.ring.now a.marks.now a.read a.held a.s.now a.from a.len a.offset (omega arith) (record { long = p.words; small = λ i. let h : Fits w64 (get_or a.marks.now i 0) = search rules in h.fits })) in
+    keeps _ _ _ _ _ _ _ _ fit _ _ _ c.max-top.ensures
+    (ring_left a.ring.now a.marks.now a.reach.read a.reach.held a.s.now a.piece.from a.piece.len a.piece.offset (omega arith) p.bytes)
+    (marks_left a.ring.now a.marks.now a.reach.read a.reach.held a.s.now a.piece.from a.piece.len a.piece.offset (omega arith) (record { long = p.words; small = λ i. let h : Fits w64 (get_or a.marks.now i 0) = search rules in h.fits })) in
     record { value = k.0; ring_after = k.1.0; marks_after = k.1.1 }
 
 pub overflow_add-from : goal.overflow_add-from
 overflow_add-from c =
     let p = room_told _ _ _ _ _ _ _ _ (sym c.has_room.ensures ∙ c.if-not-has_room.false) in
-    omega (arith, p.there, c.larger-start.ensures, c.well_formed)
+    omega (arith, p.there, c.max-start.ensures, c.well_formed)
 
 pub returns : goal.returns
 returns c =
     let a = c.args in
     let fit = sym c.has_room.ensures ∙ c.if-not-has_room.false in
     let p = room_told _ _ _ _ _ _ _ _ fit in
-    let d : a.read < a.offset + a.len = omega arith in
+    let d : a.reach.read < a.piece.offset + a.piece.len = omega arith in
     let k =
-    keeps _ _ _ _ _ _ _ _ fit _ _ _ c.larger-top.ensures
-    (ring_kept a.ring.now a.marks.now a.read a.held a.s.now a.from a.len a.offset _ _ c.larger-start.ensures c.larger-gap.ensures p.reach p.fits d p.bytes p.there _
+    keeps _ _ _ _ _ _ _ _ fit _ _ _ c.max-top.ensures
+    (ring_kept a.ring.now a.marks.now a.reach.read a.reach.held a.s.now a.piece.from a.piece.len a.piece.offset _ _ c.max-start.ensures c.max-gap.ensures p.reach p.fits d p.bytes p.there _
     c.store.ensures)
-    (marks_kept a.ring.now a.marks.now a.read a.held a.s.now a.from a.len a.offset _ _ c.larger-start.ensures c.larger-gap.ensures p.reach p.fits d p.words p.low _ _
+    (marks_kept a.ring.now a.marks.now a.reach.read a.reach.held a.s.now a.piece.from a.piece.len a.piece.offset _ _ c.max-start.ensures c.max-gap.ensures p.reach p.fits d p.words p.low _ _
     c.paint.ensures c.paint-2.ensures) in
     record { value = k.0; ring_after = k.1.0; marks_after = k.1.1 }

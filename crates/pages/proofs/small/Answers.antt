@@ -1,7 +1,6 @@
 -- `pages::small` meets its contract: it opens a table that was room with the numbers of the definition.
 use mathlib.Core.Path.{◌∙◌, ap}
 use mathlib.Core.List.{List}
-use borrow.Author.Rules.{rules}
 use Rattle.kinds.specs.declared.Role.TheVariants.{Server}
 use Rattle.owned.specs.Owned.{owned_opened_of}
 use Rattle.streams.specs.Small.{small}

@@ -2,12 +2,12 @@
 use borrow.Author.Rules.{rules}
 use native.Mathlib.Omega.{arith}
 use mathlib.Core.Path.{subst}
-use Prim.Native.Nat.{ℕ, ◌+◌, ◌-◌, ◌%◌, ◌≤◌, ◌<◌}
+use Prim.Native.Nat.{ℕ, ◌%◌, ◌≤◌, ◌<◌}
 use mir.Val.{Fits}
 use mir.Syntax.{w64}
 use Rattle.records.specs.Parts.{Cleared}
+use Rattle.ring.proofs.Bits.{without_is}
 use Rattle.records.proofs.Ring.{whole_set, clear_turn, clear_none}
-use Rattle.records.proofs.clear.Goals.{else-to-at, then-to-at}
 use Rattle.records.proofs.clear.Goals as goal
 
 pub loop-at-init : goal.loop-at-init
@@ -15,11 +15,13 @@ loop-at-init c = (search rules, search rules, c.requires.3, clear_none _ _)
 
 pub loop-at-preserved : goal.loop-at-preserved
 loop-at-preserved c =
-    let p : (c.loop-at.at % 64 < c.if-to-at.hi) × (c.if-to-at.hi ≤ 64) × (c.loop-at.at + (c.if-to-at.hi - c.loop-at.at % 64) ≤ c.args.to) =
-    elim c.if-to-at.branch [ then-to-at w ↦ (omega arith, omega arith, omega arith) | else-to-at w ↦ (omega arith, omega arith, omega arith) ] in
+    let lo = c.loop-at.at % 64 in
+    let hi = c.min-hi.result in
+    let some : lo < hi = omega arith in
+    let most : hi ≤ 64 = omega arith in
     let i = c.loop-at.invariant in
     let f : Fits w64 c.without.result = search rules in
-    (omega arith, omega arith, whole_set _ _ _ (omega arith) f.fits i.2, clear_turn _ _ _ _ _ _ i.2.long i.0 p.0 p.1 (omega arith) c.without.ensures i.3)
+    (omega arith, omega arith, whole_set _ _ _ (omega arith) f.fits i.2, clear_turn _ _ _ _ _ _ i.2.long i.0 some most (omega arith) (rw c.without.ensures (without_is _ lo hi some most)) i.3)
 
 pub returns : goal.returns
 returns c =

@@ -8,6 +8,6 @@ use Rattle.records.proofs.mark.Goals as goal
 
 pub returns : goal.returns
 returns c =
-    let s = c.slide-next.ensures in
+    let s = c.slide.ensures in
     let f : Fits w64 c.put.result = search rules in
     record { marked = mark _ _ _ _ (omega arith) s.whole.long s.slid (omega (arith, s.slid.top)) c.put.ensures; whole = whole_set _ _ _ (omega arith) f.fits s.whole }

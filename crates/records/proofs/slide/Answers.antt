@@ -1,19 +1,27 @@
 -- `records::slide` meets its contract: what is cleared are the slots of the numbers that are new in the window, and no slot of one that stays.
 use native.Mathlib.Omega.{arith}
-use mathlib.Core.Logic.{inl, inr}
-use Rattle.records.specs.Parts.{joined}
+use native.Mathlib.Decide.{dec_le}
+use mathlib.Core.Path.{◌≡◌}
+use mathlib.Core.Logic.{◌⊎◌, inl, inr}
+use Prim.Native.Nat.{ℕ, ◌+◌, ◌-◌, ◌≤◌, max}
 use Rattle.records.proofs.Ring.{slide}
-use Rattle.records.proofs.slide.Goals.{else-n-top-ge8192, then-n-top-ge8192}
 use Rattle.records.proofs.slide.Goals as goal
 
+-- what is cleared begins at the top, or 8,191 below n
+begins : (top n : ℕ) → (max top (n - 8191) ≡ top) ⊎ (max top (n - 8191) + 8191 ≡ n)
+begins top n = go (dec_le (n - 8191) top)
+  where
+    go : Dec (n - 8191 ≤ top) → (max top (n - 8191) ≡ top) ⊎ (max top (n - 8191) + 8191 ≡ n)
+    go (yes p) = inl (omega arith)
+    go (no p) = inr (omega arith)
+
 pub clear-requires : goal.clear-requires
-clear-requires c = elim c.if-n-top-ge8192.branch [ then-n-top-ge8192 w ↦ (omega arith, omega arith, omega arith, c.requires.1) | else-n-top-ge8192 w ↦ (omega arith, omega arith, omega arith, c.requires.1) ]
+clear-requires c = (omega arith, omega arith, omega arith, c.requires.1)
 
 pub returns : goal.returns
 returns c =
     let a = c.args in
     record {
-      slid = slide (joined a.words.now a.top) a.n c.if-n-top-ge8192.from _ (omega arith) (elim c.if-n-top-ge8192.branch [ then-n-top-ge8192 w ↦ omega arith | else-n-top-ge8192 w ↦ omega arith ]) (elim c.if-n-top-ge8192.branch [ then-n-top-ge8192 w ↦ omega arith | else-n-top-ge8192 w ↦ omega arith ])
-          (elim c.if-n-top-ge8192.branch [ then-n-top-ge8192 w ↦ inr (omega arith) | else-n-top-ge8192 w ↦ inl (omega arith) ]) c.clear.ensures.cleared;
+      slid = slide a.seen.now a.n c.max-from.result _ (omega arith) (omega arith) (omega arith) (rw (c.max-from.ensures, c.saturating_sub.ensures) (begins a.seen.now.top a.n)) c.clear.ensures.cleared;
       whole = c.clear.ensures.whole;
     }

@@ -4,15 +4,15 @@ use mathlib.Core.Path.{◌≡◌}
 use mathlib.Core.List.{List}
 use native.Mathlib.Omega.{arith}
 use lib.ListN.{length, take, drop, length-drop}
-use Rattle.lines.specs.declared.gather.Line.{Line}
 use Rattle.lines.specs.declared.gather.Gathered.{Gathered}
 use Rattle.lines.specs.Gathered.{gathered_of}
 use Rattle.lines.proofs.Finding.{rest_of}
 use Rattle.lines.proofs.Pieces.{uses}
 use Rattle.replay.proofs.feed.Goals as goal
+use Rattle.std.specs.Prelude.{Option}
 
 -- what a turn uses of the bytes from the place on
-used : (s : List ℕ) (at : ℕ) (line : Line) (row : List ℕ) {r : Gathered} {after : List ℕ} → (r, after) ≡ gathered_of line (take (length s - at) (drop at s)) row → at < length s → (0 < r.used) × (at + r.used ≤ length s)
+used : (s : List ℕ) (at : ℕ) (line : Option ℕ) (row : List ℕ) {r : Gathered} {after : List ℕ} → (r, after) ≡ gathered_of line (take (length s - at) (drop at s)) row → at < length s → (0 < r.used) × (at + r.used ≤ length s)
 used s at line row e h =
     let l = length-drop at s in
     let v = uses (drop at s) line row (rw (rest_of s at) at e) (omega (arith, l)) in

@@ -1,5 +1,4 @@
 -- `ring::blank` meets its contract: the shift leaves exactly the bits from s on, and a word that is not 0 has a bit.
-use borrow.Author.Rules.{rules}
 use borrow.Author.Tests.{eqb-true, eqb-false}
 use Rattle.ring.proofs.Clean.{blank_word, marked_word}
 use Rattle.ring.proofs.blank.Goals as goal

@@ -1,33 +1,26 @@
 -- `ring::end_of` meets its contract: the stretch ends where the one that is left from `end` does; a word without others is passed, and in any other the count tells its end.
-use borrow.Author.Rules.{rules}
 use native.Mathlib.Omega.{arith}
 use mathlib.Core.Path.{◌≡◌, refl, sym, ap, ◌∙◌}
-use mathlib.Core.Logic.{⊎_elim}
-use Prim.Native.Nat.{◌-◌, ◌*◌, ◌/◌, ◌%◌, ◌^◌, ◌≤◌, max}
+use Prim.Native.Nat.{◌-◌, ◌/◌, ◌%◌, ◌≤◌, max}
 use lib.ListN.{get_or}
-use lib.Count.{count_leading_zeros, leading_le}
 use Rattle.ring.specs.Bits.{alike}
 use Rattle.ring.specs.Runs.{lowest}
 use Rattle.ring.proofs.Leading.{Others, missing_ones, whole, part}
 use Rattle.ring.proofs.Meaning.{lowest_is}
-use Rattle.ring.proofs.end_of.Goals.{Then-others-ne0, then-came, else-came}
+use Rattle.ring.proofs.end_of.Goals.{After-from, then-came, else-came}
 use Rattle.ring.proofs.end_of.Goals as goal
 
 -- so its leading zeros are as many as are left of the stretch
-ending : (c : Then-others-ne0) → let l = c.loop-end in
-    let n = count_leading_zeros 64 (c.if-came.others * 2 ^ (63 - (l.end - 1) % 64) % 2 ^ 64) in
+ending : (c : After-from) → let l = c.loop-end in
     let a = c.args in
-    (n ≤ (l.end - 1) % 64) × (lowest (alike a.words.now a.came) l.end ≡ l.end - n)
+    (c.from.result ≤ (l.end - 1) % 64) × (lowest (alike a.words.now a.came) l.end ≡ l.end - c.from.result)
 ending c =
     let told : Others (get_or c.args.words.now ((c.loop-end.end - 1) / 64 % 128) 0) c.args.came c.if-came.others =
     elim c.if-came.branch [ then-came w ↦ rw (w.others-is, w.if-came.true) (missing_ones _ _ w.complement.ensures) | else-came w ↦ rw (w.others-is, w.if-came.false) (λ i l. refl) ] in
-    part _ c.args.came _ _ (omega arith) told c.if-others-ne0.true
+    rw c.from.ensures (part _ c.args.came _ _ (omega arith) told c.if-others-ne0.true)
 
 pub loop-end-init : goal.loop-end-init
 loop-end-init c = (omega arith, refl)
-
-pub overflow_cast-result : goal.overflow_cast-result
-overflow_cast-result c = omega (arith, leading_le 64 (c.if-came.others * 2 ^ (63 - (c.loop-end.end - 1) % 64) % 2 ^ 64))
 
 pub overflow_sub-result : goal.overflow_sub-result
 overflow_sub-result c = omega (arith, (ending c).0)

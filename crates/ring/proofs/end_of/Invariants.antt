@@ -1,14 +1,7 @@
-use borrow.Author.Rules.{rules}
-use native.Mathlib.Omega.{arith}
-use mathlib.Core.Path.{◌≡◌, refl, sym, ap, ◌∙◌}
-use mathlib.Core.Logic.{⊎_elim}
-use Prim.Native.Nat.{◌-◌, ◌*◌, ◌/◌, ◌%◌, ◌^◌, ◌≤◌, max}
-use lib.ListN.{get_or}
-use lib.Count.{count_leading_zeros, leading_le}
+use mathlib.Core.Path.{◌≡◌}
+use Prim.Native.Nat.{◌≤◌}
 use Rattle.ring.specs.Bits.{alike}
 use Rattle.ring.specs.Runs.{lowest}
-use Rattle.ring.proofs.Leading.{Others, missing_ones, whole, part}
-use Rattle.ring.proofs.Meaning.{lowest_is}
 use Rattle.ring.proofs.end_of.Given as goal
 
 abbrev pub invariant-loop-end : goal.invariant-loop-end

@@ -1,7 +1,5 @@
 -- `ring::is_clean` meets its contract: the numbers from the top on have the rest of its word and the words after it.
-use borrow.Author.Rules.{rules}
 use mathlib.Core.Bool.{true≢false}
-use borrow.Author.Tests.{not-true, not-false}
 use native.Mathlib.Omega.{arith}
 use mathlib.Core.Path.{sym}
 use Prim.Native.Nat.{◌+◌, ◌*◌, ◌/◌}

@@ -1,5 +1,5 @@
 -- `single::step` meets its contract: the entry that the frame looks at is taken out, judged and put back; one that is not there is judged as it would be found, and nothing is put back.
-use mathlib.Core.Path.{◌≡◌, refl, sym, ap, ◌∙◌}
+use mathlib.Core.Path.{◌≡◌, refl, sym, ap}
 use mathlib.Core.List.{List}
 use Prim.Native.Nat.{ℕ, ◌≤◌, ◌<◌}
 use lib.ListN.{length, get_or, set}

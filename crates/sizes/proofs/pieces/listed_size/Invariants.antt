@@ -1,12 +1,9 @@
 use mathlib.Core.Path.{◌≡◌}
-use Prim.Native.Nat.{◌≤◌, ◌+◌}
+use Prim.Native.Nat.{◌≤◌, ◌+◌, ◌-◌}
 use lib.ListN.{length}
 use Rattle.row.specs.Row.{size_all}
 use Rattle.ranges.specs.Listed.{listed}
 use Rattle.sizes.proofs.pieces.listed_size.Given as goal
 
-abbrev pub invariant-loop-left : goal.invariant-loop-left
-invariant-loop-left l = (l.total + size_all (listed l.s l.place l.left) ≡ size_all (listed l.s l.from l.n)) × (size_all (listed l.s l.from l.n) ≤ length l.s)
-
-abbrev pub decreases-loop-left : goal.decreases-loop-left
-decreases-loop-left l = l.left
+abbrev pub invariant-loop : goal.invariant-loop
+invariant-loop l = (l.total + size_all (listed l.s l.place (l.n - l.counter)) ≡ size_all (listed l.s l.from l.n)) × (size_all (listed l.s l.from l.n) ≤ length l.s)

@@ -1,10 +1,10 @@
 -- `sizes::pieces::size` meets its contract: each arm counts the bytes that the definition gives for its tail.
-use mathlib.Core.Path.{refl, sym, ◌∙◌}
+use mathlib.Core.Path.{sym, ◌∙◌}
 use native.Mathlib.Omega.{arith}
 use borrow.Author.Tests.{leb-true}
 use Rattle.wire.proofs.Exit.{size_bounds}
 use Rattle.row.proofs.Back.{length_all}
-use Rattle.sizes.proofs.Bodies.{within, part_length, counted_length, identity_length}
+use Rattle.sizes.proofs.Bodies.{within, part_length, counted_length, identity_length, plain}
 use Rattle.sizes.proofs.pieces.size.Goals as goal
 
 pub overflow_add-result : goal.overflow_add-result
@@ -14,9 +14,6 @@ overflow_add-result c =
 pub listed_size-requires : goal.listed_size-requires
 listed_size-requires c =
     omega (arith, (within _ _ _ c.requires.inside).0)
-
-pub returns-in-Nothing : goal.returns-in-Nothing
-returns-in-Nothing c = rw c.in-Nothing.is (refl, omega arith)
 
 pub returns-in-Counted : goal.returns-in-Counted
 returns-in-Counted c =
@@ -28,12 +25,7 @@ returns-in-Counted c =
 pub returns-in-Remainder : goal.returns-in-Remainder
 returns-in-Remainder c =
     let a = c.args in
-    rw c.in-Remainder.is (sym (part_length a.s.now a.p.at a.p.len (within _ _ _ c.requires.inside).0), omega (arith, c.requires.len))
-
-pub returns-in-Eight : goal.returns-in-Eight
-returns-in-Eight c =
-    let a = c.args in
-    rw c.in-Eight.is (sym (part_length a.s.now a.p.at a.p.len (within _ _ _ c.requires.inside).0), omega (arith, c.requires.len))
+    rw (plain a.s.now a.tail a.p c.in-Remainder.is) (sym (part_length a.s.now a.p.at a.p.len (within _ _ _ c.requires.inside).0), omega (arith, c.requires.len))
 
 pub returns-in-Identity : goal.returns-in-Identity
 returns-in-Identity c =
