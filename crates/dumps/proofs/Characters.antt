@@ -11,7 +11,7 @@ use Rattle.std.specs.Prelude.{Option, Some, None}
 use Rattle.answers.proofs.Choice.{holds, below_or_not}
 use Rattle.answers.proofs.Distinct.{impossible}
 use Rattle.dumps.specs.Digits.{half_of, is_half}
-use Rattle.dumps.proofs.Digits.{none_below, a_half}
+use Rattle.dumps.proofs.Digits.{half_bound, none_below, a_half}
 use Rattle.dumps.specs.Dump.{is_gap, first_by, first_of, second_by, second_of, begun_by, begun_of, next_by, next_of}
 use Rattle.dumps.specs.declared.Step.{Step}
 use Rattle.dumps.specs.declared.Step.TheVariants.{Between, Begun, Byte}
@@ -90,6 +90,15 @@ by_step P half c byte begun gap wrong =
         | None ↦ λ f. holds P (is_gap c) _ _ (λ g. gap e g) (λ g. wrong)
       ] refl
     ] refl
+
+-- the digit of a character that begins a byte is taken up as it is
+pub first_begun : (half : Option ℕ) (c : ℕ) {d : ℕ} → next_of half c ≡ Some (Begun d) → begun_of (Some d) ≡ Some d
+first_begun half c {d} =
+    by_step (λ x. x ≡ Some (Begun d) → begun_of (Some d) ≡ Some d) half c
+    (λ h l e f p. impossible cc)
+    (λ first e f p. let q : first ≡ d = cc in begun_low (half_bound c (rw q at f)))
+    (λ e g p. impossible cc)
+    (λ p. impossible cc)
 
 -- what stands between bytes is no digit, and a digit does not
 pub gap_no_digit : (c : ℕ) → is_gap c ≡ true → half_of c ≡ None

@@ -54,11 +54,13 @@ fn begun(half: Option<u8>) -> Option<u8>
     }
 }
 
-// What a character is after such a digit, or nothing where it cannot stand there.
+// What a character is after such a digit, or nothing where it cannot stand there. `take` calls `begun` once, before its
+// loop: a call here would test the digit again at each character.
 fn next(half: Option<u8>, c: u8) -> Option<Step>
+    requires { begun_of half ≡ half }
     ensures { result ≡ next_of half c }
 {
-    match (begun(half), crate::half(c)) {
+    match (half, crate::half(c)) {
         (Some(high), Some(low)) => Some(Step::Byte {
             byte: high * 16 + low,
         }),

@@ -11,10 +11,12 @@ use layouts::types::HANDSHAKE_DONE;
 pub fn read(s: &[u8], at: usize) -> Result<(u64, usize), Refusal>
     ensures { result ≡ head_at s.now at }
 {
-    let (ty, next) = wire::read(s, at).ok_or(Refusal {
-        answer: Answer::FrameEncoding,
-        ty: 0,
-    })?;
+    let Some((ty, next)) = wire::read(s, at) else {
+        return Err(Refusal {
+            answer: Answer::FrameEncoding,
+            ty: 0,
+        });
+    };
     if next - at != wire::size(ty) {
         return Err(Refusal {
             answer: Answer::ProtocolViolation,

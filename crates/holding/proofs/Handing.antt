@@ -28,7 +28,7 @@ module _ (ring marks : List ℕ) (read held : ℕ) (out : List ℕ) (bytes : len
   is_run : n ≡ run
   is_run = told ∙ simp (eq-eqb _ _ words)
 
-  run_few : n ≤ 4096
+  pub run_few : n ≤ 4096
   run_few = omega (arith, is_run, (run_longest (marked marks) (held - read) read).fits)
 
   pub hand_full : n ≤ length out → (t : List ℕ) → t ≡ taken_out ring out read n → t ≡ handed_out ring marks read held out

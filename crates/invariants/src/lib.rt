@@ -26,7 +26,9 @@ pub struct Invariant {
 pub fn bytes_after(rest: &[u8], count: Option<(u64, usize)>) -> Option<Part>
     ensures { result ≡ bytes_after rest.now count }
 {
-    let (value, at) = count?;
+    let Some((value, at)) = count else {
+        return None;
+    };
     let left = rest.len().checked_sub(at)?;
     if (left as u64) < value {
         return None;

@@ -30,10 +30,18 @@ pub fn read_numbers(s: &[u8], at: usize, n: u8) -> Option<Numbers>
             next: at,
         });
     }
-    let (a, p) = read_optional(s, at, 0 < n)?;
-    let (b, q) = read_optional(s, p, 1 < n)?;
-    let (c, r) = read_optional(s, q, 2 < n)?;
-    let (d, next) = read_optional(s, r, 3 < n)?;
+    let Some((a, p)) = read_optional(s, at, 0 < n) else {
+        return None;
+    };
+    let Some((b, q)) = read_optional(s, p, 1 < n) else {
+        return None;
+    };
+    let Some((c, r)) = read_optional(s, q, 2 < n) else {
+        return None;
+    };
+    let Some((d, next)) = read_optional(s, r, 3 < n) else {
+        return None;
+    };
     Some(Numbers { a, b, c, d, next })
 }
 
@@ -60,7 +68,9 @@ fn read_sized(s: &[u8], at: usize, n: u64) -> Option<Body>
 fn read_counted(s: &[u8], at: usize) -> Option<Body>
     ensures { result ≡ counted_at s.now at }
 {
-    let (n, next) = wire::read(s, at)?;
+    let Some((n, next)) = wire::read(s, at) else {
+        return None;
+    };
     read_sized(s, next, n)
 }
 

@@ -44,8 +44,12 @@ fn below(low: u64, gap: u64, length: u64, next: usize) -> Option<Range>
 fn one(s: &[u8], at: usize, low: u64) -> Option<Range>
     ensures { result ≡ range_at s.now at low }
 {
-    let (gap, p) = wire::read(s, at)?;
-    let (length, next) = wire::read(s, p)?;
+    let Some((gap, p)) = wire::read(s, at) else {
+        return None;
+    };
+    let Some((length, next)) = wire::read(s, p) else {
+        return None;
+    };
     below(low, gap, length, next)
 }
 

@@ -13,6 +13,7 @@ mod turns;
 mod within;
 
 use lines::gather;
+use session::Session;
 use std::io;
 use std::io::Read;
 use turns::Fed;
@@ -21,6 +22,7 @@ use turns::Fed;
 fn feed(
     to: &impl Print,
     err: &impl Print,
+    session: &mut Option<Session>,
     fed: Fed,
     row: &mut [u8; 4096],
     s: &[u8],
@@ -32,7 +34,7 @@ fn feed(
         at += got.used;
         now.line = got.line;
         if got.ended {
-            now = turns::ended(to, err, now, row)?;
+            now = turns::ended(to, err, session, now, row)?;
         }
     }
     Ok(now)
@@ -42,6 +44,7 @@ fn feed(
 fn some(
     rt: &(impl Input + Print),
     err: &impl Print,
+    session: &mut Option<Session>,
     fed: Fed,
     row: &mut [u8; 4096],
 ) -> io::Result<Option<Fed>> {
@@ -50,7 +53,7 @@ fn some(
     if n == 0 {
         return Ok(None);
     }
-    let now = feed(rt, err, fed, row, &chunk[..n])?;
+    let now = feed(rt, err, session, fed, row, &chunk[..n])?;
     Ok(Some(now))
 }
 
@@ -59,17 +62,17 @@ fn main(rt: HostRuntime) -> io::Result<()> {
     let err = rt.stderr();
     // a line has at most so many bytes
     let mut row = [0u8; 4096];
+    let mut session = None;
     let mut now = Fed {
-        session: None,
         line: Some(0),
         number: 1,
     };
     for _ in 0..u64::MAX {
-        let Some(next) = some(&rt, &err, now, &mut row)? else {
+        let Some(next) = some(&rt, &err, &mut session, now, &mut row)? else {
             break;
         };
         now = next;
     }
-    turns::ended(&rt, &err, now, &row)?;
+    turns::ended(&rt, &err, &mut session, now, &row)?;
     Ok(())
 }

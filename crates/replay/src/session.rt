@@ -22,28 +22,10 @@ pub fn no_records() -> Records {
 }
 
 // The record of a space.
-pub fn record(records: Records, space: Space) -> Record {
+pub fn record(records: &mut Records, space: Space) -> &mut Record {
     match space {
-        Space::Initial => records.initial,
-        Space::Handshake => records.handshake,
-        Space::Application => records.application,
-    }
-}
-
-// The records with another one for a space.
-pub fn with(records: Records, space: Space, r: Record) -> Records {
-    match space {
-        Space::Initial => Records {
-            initial: r,
-            ..records
-        },
-        Space::Handshake => Records {
-            handshake: r,
-            ..records
-        },
-        Space::Application => Records {
-            application: r,
-            ..records
-        },
+        Space::Initial => &mut records.initial,
+        Space::Handshake => &mut records.handshake,
+        Space::Application => &mut records.application,
     }
 }

@@ -116,9 +116,8 @@ pub fn read(s: &[u8], n: usize) -> Result<Spoil, usize> {
     }
 }
 
-// What the host keeps, spoiled.
-pub fn spoiled(now: Session, spoil: Spoil) -> Session {
-    let mut now = now;
+// Spoils what the host keeps.
+pub fn apply(now: &mut Session, spoil: Spoil) {
     match spoil {
         Spoil::Total { new } => now.conn.total = new,
         Spoil::Credit { new } => now.conn.limits.credit = new,
@@ -127,16 +126,9 @@ pub fn spoiled(now: Session, spoil: Spoil) -> Session {
         Spoil::Opened { at, new } if at < 4 => now.conn.opened[at] = new,
         Spoil::Place { at, entry } if at < 192 => now.table[at] = entry,
         Spoil::Word { space, at, new } if at < 128 => {
-            let mut r = session::record(now.records, space);
-            r.words[at] = new;
-            now.records = session::with(now.records, space, r);
+            session::record(&mut now.records, space).words[at] = new;
         },
-        Spoil::Top { space, new } => {
-            let mut r = session::record(now.records, space);
-            r.top = new;
-            now.records = session::with(now.records, space, r);
-        },
+        Spoil::Top { space, new } => session::record(&mut now.records, space).top = new,
         _ => {},
     }
-    now
 }

@@ -41,12 +41,11 @@ fn accounts(c: Conn, out: &mut Out) {
     }
 }
 
-// Writes a blank and STATE after an answer, which is then whole. The session is handed back.
-pub fn end(now: Session, out: &mut Out) -> Session {
+// Writes a blank and STATE after an answer, which is then whole.
+pub fn end(now: &Session, out: &mut Out) {
     accounts(now.conn, out);
     mark(now.conn.mark, out);
     largest(b" largest=", now.records.initial.top, out);
     largest(b",", now.records.handshake.top, out);
     largest(b",", now.records.application.top, out);
-    now
 }

@@ -10,49 +10,39 @@ use owned::Owned;
 use steps::Shown;
 use streams::{Called, Limits};
 
-// Opens a connection; none on a refusal.
-pub fn open(role: Role, limits: Limits, out: &mut Out) -> Option<Session> {
+// Opens a connection; a refusal leaves the one there was.
+pub fn open(session: &mut Option<Session>, role: Role, limits: Limits, out: &mut Out) {
     let Owned { told, table } = owned::open(opening::room(), role, limits);
     out.number(told.answer.number());
-    let Answer::Accepted = told.answer else {
-        return None;
-    };
-    let opened = Session {
-        conn: told.conn,
-        records: session::no_records(),
-        table,
-    };
-    Some(state::end(opened, out))
+    if let Answer::Accepted = told.answer {
+        let opened = Session {
+            conn: told.conn,
+            records: session::no_records(),
+            table,
+        };
+        state::end(&opened, out);
+        *session = Some(opened);
+    }
 }
 
 // The answer of a call that changes the connection alone.
-fn called(now: Session, d: Called, out: &mut Out) -> Session {
+fn called(now: &mut Session, d: Called, out: &mut Out) {
+    now.conn = d.conn;
     out.number(d.answer.number());
-    state::end(
-        Session {
-            conn: d.conn,
-            ..now
-        },
-        out,
-    )
+    state::end(now, out);
 }
 
 // The same of a call that hands out a number: there is none on refusal.
-fn numbered(now: Session, d: Called, out: &mut Out) -> Session {
+fn numbered(now: &mut Session, d: Called, out: &mut Out) {
+    now.conn = d.conn;
     match d.answer {
         Answer::Accepted => out.labelled(b"0 ", d.number),
         refused => out.refused(refused),
     }
-    state::end(
-        Session {
-            conn: d.conn,
-            ..now
-        },
-        out,
-    )
+    state::end(now, out);
 }
 
-fn packet(now: Session, first: u8, s: &[u8], out: &mut Out) -> Session {
+fn packet(now: &mut Session, first: u8, s: &[u8], out: &mut Out) {
     let Owned { told, table } = owned_calls::take_packet(
         now.conn,
         now.records,
@@ -60,13 +50,11 @@ fn packet(now: Session, first: u8, s: &[u8], out: &mut Out) -> Session {
         first,
         s,
     );
+    now.conn = told.conn;
+    now.records = told.records;
+    now.table = table;
     out.number(told.answer.number());
-    let after = Session {
-        conn: told.conn,
-        records: told.records,
-        table,
-    };
-    state::end(after, out)
+    state::end(now, out);
 }
 
 // A frame's type and the place after it.
@@ -84,53 +72,47 @@ fn shown(shown: Shown, out: &mut Out) {
     }
 }
 
-fn frame(now: Session, kind: Kind, s: &[u8], out: &mut Out) -> Session {
+fn frame(now: &mut Session, kind: Kind, s: &[u8], out: &mut Out) {
     let Owned { told, table } = owned::take_frame(now.conn, now.table, s, 0, kind);
+    now.conn = told.conn;
+    now.table = table;
     out.number(told.answer.number());
     shown(told.shown, out);
-    let after = Session {
-        conn: told.conn,
-        table,
-        ..now
-    };
-    state::end(after, out)
+    state::end(now, out);
 }
 
 // A local call: one that opens a stream answers its ID as well.
-fn make(now: Session, call: Call, out: &mut Out) -> Session {
+fn make(now: &mut Session, call: Call, out: &mut Out) {
     let Owned { told, table } = owned_calls::call(now.conn, now.table, call);
-    let after = Session { table, ..now };
+    now.table = table;
     match call {
-        Call::OpenNext { .. } => numbered(after, told, out),
-        _ => called(after, told, out),
+        Call::OpenNext { .. } => numbered(now, told, out),
+        _ => called(now, told, out),
     }
 }
 
-fn mark(now: Session, space: Space, number: u64, out: &mut Out) -> Session {
-    let taken = session::record(now.records, space).take(number);
+fn mark(now: &mut Session, space: Space, number: u64, out: &mut Out) {
+    let record = session::record(&mut now.records, space);
+    let taken = record.take(number);
+    *record = taken.record;
     out.number(taken.answer.number());
-    let after = Session {
-        records: session::with(now.records, space, taken.record),
-        ..now
-    };
-    state::end(after, out)
+    state::end(now, out);
 }
 
-fn ack(now: Session, space: Space, delay: u64, room: usize, out: &mut Out) -> Session {
+fn ack(now: &mut Session, space: Space, delay: u64, room: usize, out: &mut Out) {
     let mut frame = [0u8; 2048];
-    let r = session::record(now.records, space);
-    let wrote = acks::write(r, delay, say::room(&mut frame, room), 0);
+    let seen = *session::record(&mut now.records, space);
+    let wrote = acks::write(seen, delay, say::room(&mut frame, room), 0);
     out.wrote(wrote, &frame);
-    now
 }
 
-fn set(now: Session, spoil: spoils::Spoil, out: &mut Out) -> Session {
+fn set(now: &mut Session, spoil: spoils::Spoil, out: &mut Out) {
+    spoils::apply(now, spoil);
     out.text(b"ok");
-    spoils::spoiled(now, spoil)
 }
 
 // Runs a command, whose bytes are the first of s.
-pub fn run(now: Session, within: Within, s: &[u8], out: &mut Out) -> Session {
+pub fn run(now: &mut Session, within: Within, s: &[u8], out: &mut Out) {
     match within {
         Within::Packet { first, count } => packet(now, first, front(s, count), out),
         Within::Frame { kind, count } => frame(now, kind, front(s, count), out),

@@ -3,7 +3,7 @@
 // a part of one that takes a record, and what it answers of words that are no record is still fixed by its contract.
 #![tactic(auto)]
 
-ghost use Rattle.std.specs.Prelude.{◌≡◌, ◌*◌, ◌≤◌, ◌<◌, ◌-◌, max};
+ghost use Rattle.std.specs.Prelude.{◌≡◌, ◌*◌, ◌≤◌, ◌<◌, ◌-◌, max, min};
 ghost use Rattle.ring.specs.Bits.{bit_at, alike, marked, unmarked};
 ghost use Rattle.ring.specs.Runs.{lowest, next_run};
 ghost use Rattle.ring.specs.Parts.{Blank, Clean, Complement, Decides, without};
@@ -73,6 +73,20 @@ pub fn is_clean(words: &[u64; 128], top: u64) -> bool
         return false;
     }
     zeros(words, k + 1)
+}
+
+// The larger of two numbers.
+pub fn larger(a: u64, b: u64) -> u64
+    ensures { result ≡ max a b }
+{
+    a.max(b)
+}
+
+// The smaller of two numbers.
+pub fn smaller(a: u64, b: u64) -> u64
+    ensures { result ≡ min a b }
+{
+    a.min(b)
 }
 
 // Each bit the other way.

@@ -9,6 +9,10 @@ use lib.ListN.{length, get_or}
 use lib.Bits.{bit_or, bit_xor, or_add_and, xor_add_and, and_le_l, and_le_r, xor_self}
 use Rattle.seams.specs.Parts.{Copied, Stored, Same, SameAt}
 
+-- no byte copied leaves all as it was
+pub copy_none : (o s : List ℕ) (i j : ℕ) → Copied o i s j 0 o
+copy_none o s i j = record { long = refl; inside = λ k h. absurd (omega arith); rest = λ x f. refl }
+
 -- a part up to the seam, and one after it
 pub store_parts : (o t u s : List ℕ) (at j n m : ℕ) → length o ≡ 4096 → n ≤ 4096 → m ≤ n → at % 4096 + m ≤ 4096 → (m < n → at % 4096 + m ≡ 4096)
     → Copied o (at % 4096) s j m t → Copied t 0 s (j + m) (n - m) u → Stored o at s j n u

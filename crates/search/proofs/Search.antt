@@ -1,7 +1,7 @@
 -- Searching from a place on: what the character there decides, and the rest; and what the test of sameness tells.
 -- Assumes nothing.
-use mathlib.Core.Path.{◌≡◌, refl}
-use mathlib.Core.Bool.{true, and-eq-true_iff}
+use mathlib.Core.Path.{◌≡◌, refl, ap}
+use mathlib.Core.Bool.{true, false, ◌&&◌, and-eq-true_iff, and-false}
 use mathlib.Core.List.{List, [], ◌∷◌}
 use Prim.Native.Nat.{ℕ, zero, suc, ◌+◌, ◌≤◌, ◌<◌}
 use native.Mathlib.Omega.{arith}
@@ -43,6 +43,19 @@ compared [] [] = refl
 compared [] (y ∷ t) = refl
 compared (x ∷ s) [] = refl
 compared (x ∷ s) (y ∷ t) = rw (compared s t)
+
+-- sameness from a place on, by the two characters there
+pub same_step : (s t : List ℕ) (i : ℕ) → i < length s → i < length t → same_of (drop i s) (drop i t) ≡ (eqb (get_or s i 0) (get_or t i 0) && same_of (drop (i + 1) s) (drop (i + 1) t))
+unfolding same_of
+same_step s t i h k = rw (step s i h, step t i k)
+
+-- texts of different lengths are not the same
+pub not_as_long : (s t : List ℕ) → (length s ≡ length t → ⊥) → same_of s t ≡ false
+unfolding same_of
+not_as_long [] [] n = absurd (n refl)
+not_as_long [] (y ∷ t) n = refl
+not_as_long (x ∷ s) [] n = refl
+not_as_long (x ∷ s) (y ∷ t) n = rw (not_as_long s t (λ e. n (ap suc e))) (and-false (eqb x y))
 
 -- the test tells sameness
 pub told : (s t : List ℕ) → same_of s t ≡ true → s ≡ t

@@ -34,5 +34,13 @@ pub fn line_end(s: &[u8], at: usize) -> usize
 pub fn same(s: &[u8], word: &[u8]) -> bool
     ensures { result ≡ same_of s.now word.now }
 {
-    s == word
+    if s.len() != word.len() {
+        return false;
+    }
+    for i in 0..s.len() {
+        if s[i] != word[i] {
+            return false;
+        }
+    }
+    true
 }

@@ -21,6 +21,8 @@ use Rattle.streams.proofs.Conn.open_to.Kinds as open_to_law
 use Rattle.streams.proofs.Conn.open_to.Reads as open_to_reads
 use Rattle.streams.proofs.Conn.hand_out.Kinds as hand_out
 use Rattle.streams.proofs.Conn.hand_out.Reads as hand_out_reads
+use Rattle.streams.proofs.larger.Kinds as larger
+use Rattle.streams.proofs.larger.Reads as larger_reads
 
 pub is_open_firm : Firm 0 is_open.ps is_open.r is_open_reads.Asked is_open_reads.Post
 is_open_firm = equation refl
@@ -48,3 +50,6 @@ open_to_firm = equation refl
 
 pub hand_out_firm : Firm 0 hand_out.ps hand_out.r hand_out_reads.Asked hand_out_reads.Post
 hand_out_firm = equation refl
+
+pub larger_firm : Firm 0 larger.ps larger.r larger_reads.Asked larger_reads.Post
+larger_firm = equation refl

@@ -2,7 +2,7 @@
 // local call may do to it is said by the crates above.
 #![tactic(auto)]
 
-ghost use Rattle.std.specs.Prelude.{◌≡◌, ◌<◌};
+ghost use Rattle.std.specs.Prelude.{◌≡◌, ◌<◌, max};
 ghost use Rattle.halves.specs.Stream.{half_of};
 ghost use Rattle.streams.specs.Conn.{is_open, opened_of, count_of, initial_of, marked_as, open_to, index_of, next_of, handed_out_of, limits_fit};
 
@@ -173,4 +173,11 @@ impl Conn {
             conn,
         }
     }
+}
+
+// The larger of two.
+pub fn larger(a: u64, b: u64) -> u64
+    ensures { result ≡ max a b }
+{
+    a.max(b)
 }
