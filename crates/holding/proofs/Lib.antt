@@ -1,3 +1,4 @@
+pub mod Offering
 pub mod Handing
 pub mod Meaning
 pub mod Unique

@@ -1,2 +1,3 @@
+pub mod Sender
 pub mod Taken
 pub mod Unique

@@ -1,4 +1,4 @@
--- Searching from a place on: what the character there decides, and the rest; and what the test of sameness tells.
+-- Searching and comparing from a place on: what the character there decides, and the rest; and what the test of sameness tells.
 -- Assumes nothing.
 use mathlib.Core.Path.{◌≡◌, refl, ap}
 use mathlib.Core.Bool.{true, false, ◌&&◌, and-eq-true_iff, and-false}
@@ -7,7 +7,6 @@ use Prim.Native.Nat.{ℕ, zero, suc, ◌+◌, ◌≤◌, ◌<◌}
 use native.Mathlib.Omega.{arith}
 use borrow.Author.Tests.{eqb-true, eqb-false, eq-eqb, ne_eqb}
 use lib.Dec.{eqb}
-use lib.Pointwise.{pointwise}
 use lib.ListN.{length, get_or, drop}
 use Rattle.answers.proofs.Choice.{holds}
 use Rattle.answers.proofs.Distinct.{impossible}
@@ -35,14 +34,6 @@ found b (x ∷ l) =
     earlier : (x ≡ b → ⊥) → ((j : ℕ) → j < before b l → get_or l j 0 ≡ b → ⊥) → (j : ℕ) → j < suc (before b l) → get_or (x ∷ l) j 0 ≡ b → ⊥
     earlier n f zero h = n
     earlier n f (suc j) h = f j (omega arith)
-
--- the library's test is this one
-pub compared : (s t : List ℕ) → pointwise eqb s t ≡ same_of s t
-unfolding same_of
-compared [] [] = refl
-compared [] (y ∷ t) = refl
-compared (x ∷ s) [] = refl
-compared (x ∷ s) (y ∷ t) = rw (compared s t)
 
 -- sameness from a place on, by the two characters there
 pub same_step : (s t : List ℕ) (i : ℕ) → i < length s → i < length t → same_of (drop i s) (drop i t) ≡ (eqb (get_or s i 0) (get_or t i 0) && same_of (drop (i + 1) s) (drop (i + 1) t))

@@ -6,4 +6,4 @@ use Rattle.holding.proofs.hand.Goals as goal
 pub returns-clause-out_after : goal.returns-clause-out_after
 returns-clause-out_after c =
     let a = c.args in
-    hand_full a.ring.now a.marks.now a.reach.read a.reach.held a.out.now (omega arith) (omega arith) (omega (arith, c.saturating_sub.ensures)) _ c.run-n.ensures (omega arith) _ c.take.ensures
+    (hand_full a.ring.now a.marks.now a.reach.read a.reach.held a.out.now (omega arith) (omega arith) (omega (arith, c.saturating_sub.ensures)) _ c.run-n.ensures (omega arith) _ c.take.ensures).1
